@@ -6,7 +6,7 @@ use mathlib.Core.Bool.{Bool, true, false, ◌&&◌, ◌||◌, not, false≢true}
 use native.Mathlib.Omega.{arith}
 use lib.ListN.{length, get_or}
 use lib.Dec.{eqb, leb, ltb, lit≤}
-use borrow.Author.Tests.{ltb-true, leb-true, eqb-true, eqb-false, not-true}
+use borrow.Author.Tests.{ltb-true, leb-true, eqb-true}
 use Rattle.std.specs.Prelude.{None}
 use Rattle.snapshot.specs.Refusals.{form_refusal}
 use Rattle.snapshot.specs.Kinds.{kind_number, kind_with}

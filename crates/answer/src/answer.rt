@@ -14,6 +14,7 @@ use snapshot::ids::WordCount;
 use snapshot::refusal::Refusal;
 
 // The report, in a work area that serves and is cleared.
+// The steps of any_answer and reach_answer over another report: a closure between them would have to carry what it leaves in the area.
 fn find_path_within(words: &[u32], area: &mut [u32], question: Question) -> Report
     requires { length area.old ≡ area_limit }
     ensures value { result ≡ report_of words.now area_limit question }

@@ -14,6 +14,7 @@ use snapshot::ids::{DefinitionId, ModuleId, PathLen, WordCount};
 use snapshot::refusal::Refusal;
 
 // The answer, in a work area that serves and is cleared.
+// Three steps, as in `answer`; shared, the middle one would be a closure that writes the area, under a contract longer than this body.
 fn any_within(words: &[u32], area: &mut [u32], q: Query) -> AnyReport
     requires { length area.old ≡ area_limit }
     ensures value { result ≡ any_report words.now area_limit q }

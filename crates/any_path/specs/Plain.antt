@@ -12,7 +12,7 @@ use Rattle.nameable.specs.Paths.{Path, plain, Named, as_named, extern_named, sco
 use Rattle.nameable.specs.Queue.{seen_named}
 use Rattle.readings.specs.Reads.{extern_named as extern_of_name}
 use Rattle.any_path.specs.declared.plain.Reading.{Reading}
-use Rattle.any_path.specs.declared.plain.Reading.TheVariants.{Scope as ByScope, Extern as ByExtern, Nothing}
+use Rattle.any_path.specs.declared.plain.Reading.TheVariants.{Scope as ByScope, Extern as ByExtern}
 
 -- the nearest seen entry in the viewer's scope or around its blocks
 unfoldable pub scopes_named : Snapshot → ℕ → ℕ → ℕ → Option Scope
@@ -32,10 +32,10 @@ unfoldable pub prelude_named : Snapshot → ℕ → ℕ → ℕ → Option Scope
 prelude_named s from ns n = named_in s from ns n (prelude_of s (map_no s from))
 
 -- what the record at the place that is answered says
-unfoldable pub record_read : Snapshot → List ℕ → Reading → Option Named
-record_read s W (ByScope h) = Some (as_named s (scope_at W h))
-record_read s W (ByExtern h) = Some (extern_named (extern_at W h))
-record_read s W Nothing = None
+unfoldable pub record_read : Snapshot → List ℕ → Option Reading → Option Named
+record_read s W (Some (ByScope h)) = Some (as_named s (scope_at W h))
+record_read s W (Some (ByExtern h)) = Some (extern_named (extern_at W h))
+record_read s W None = None
 
 -- the module +1 that is meant, 0 for none
 

@@ -70,6 +70,7 @@ fn offer_entry(
 }
 
 // The row number i of n is taken up: a row more for each module without one that a name more after it means.
+// The loop of `offer_scope` over another step: one of both would take a closure that writes the area, and its invariant as a clause.
 pub(crate) fn expand(
     words: &[u32],
     area: &mut [u32],

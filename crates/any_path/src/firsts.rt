@@ -74,6 +74,7 @@ fn offer_lead(
 }
 
 // The names of a module's entries that lead on.
+// The step takes a module where that of `expand` takes a row, and another fold is proved of it; so each keeps its loop.
 fn offer_scope(
     words: &[u32],
     area: &mut [u32],

@@ -21,12 +21,11 @@ use snapshot::ids::{ModuleId, Name, Namespace};
 use snapshot::layout::Layout;
 use snapshot::record::{extern_target, prelude_target, scope_definition, scope_ns};
 
-/// The record by which a name is read, with the place of its head: a scope entry, an extern, or none.
+/// The record by which a name is read, with the place of its head: a scope entry or an extern.
 #[derive(Clone, Copy)]
 pub enum Reading {
     Scope(usize),
     Extern(usize),
-    Nothing,
 }
 
 // The nearest seen entry with a namespace and a name, in the viewer's scope or around its blocks.
@@ -91,23 +90,21 @@ pub fn read_plain(
     from: ModuleId,
     ns: usize,
     name: Name,
-) -> Reading
+) -> Option<Reading>
     requires { Reads words.now area.now l × (from.0 < l.modules) }
     ensures { record_read (snap_of words.now area.now l) words.now result
         ≡ reads (snap_of words.now area.now l) from.0 ns (plain name.0) }
 {
     let near = scopes_named(words, area, l, from, ns, name);
     if let Some(h) = near {
-        return Reading::Scope(h);
+        return Some(Reading::Scope(h));
     }
     let outer = externs_named(words, area, l, from, ns, name);
     if let Some(h) = outer {
-        return Reading::Extern(h);
+        return Some(Reading::Extern(h));
     }
-    let Some(h) = prelude_named(words, area, l, from, ns, name) else {
-        return Reading::Nothing;
-    };
-    Reading::Scope(h)
+    let h = prelude_named(words, area, l, from, ns, name)?;
+    Some(Reading::Scope(h))
 }
 
 // The module that the entry with its head at a place stands for.
@@ -124,24 +121,23 @@ fn entry_module(words: &[u32], l: Layout, h: usize) -> Option<ModuleId>
 }
 
 /// The module that a record stands for.
-pub fn module_read(words: &[u32], l: Layout, r: Reading) -> Option<ModuleId>
+pub fn module_read(words: &[u32], l: Layout, r: Option<Reading>) -> Option<ModuleId>
     requires { word_count l < 2 ^ 32 }
     ensures { (A : List ℕ) → plus_one result ≡ module_in (record_read (snap_of words.now A l) words.now r) }
 {
-    match r {
+    match r? {
         Reading::Scope(h) => entry_module(words, l, h),
         Reading::Extern(h) => Some(extern_target(words, h)),
-        Reading::Nothing => None,
     }
 }
 
 /// The place of the record, 0 for none.
-pub fn place_read(r: Reading) -> usize
+pub fn place_read(r: Option<Reading>) -> usize
     ensures { (s : Snapshot) (W : List ℕ) → result ≡ place_in (record_read s W r) }
 {
     match r {
-        Reading::Scope(h) => h,
-        Reading::Extern(h) => h,
-        Reading::Nothing => 0,
+        Some(Reading::Scope(h)) => h,
+        Some(Reading::Extern(h)) => h,
+        None => 0,
     }
 }

@@ -23,6 +23,7 @@ impl Row {
 }
 
 // Whether a module has one of the first n rows.
+// The area holds n rows of the 512 that have room: a shorter slice would be cut at each call, and `Run` speaks of the whole area.
 pub(crate) fn is_met(area: &[u32], n: usize, m: usize) -> bool
     requires { n ≤ module_limit }
     ensures { result ≡ is_met (run_at area.now n) m }

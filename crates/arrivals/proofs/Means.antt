@@ -29,7 +29,7 @@ use Rattle.nameable.proofs.Reached.{Plenty}
 use Rattle.nameable.proofs.Plenty.{plenty}
 use Rattle.any_path.specs.Rows.{path_from, run_at, Meant}
 use Rattle.any_path.specs.declared.plain.Reading.{Reading}
-use Rattle.any_path.specs.declared.plain.Reading.TheVariants.{Scope as ByScope, Extern as ByExtern, Nothing}
+use Rattle.any_path.specs.declared.plain.Reading.TheVariants.{Scope as ByScope, Extern as ByExtern}
 use Rattle.any_path.specs.Plain.{record_read}
 use Rattle.any_path.proofs.Written.{run_small}
 use Rattle.arrivals.specs.Steps.{way_of, Steps, LeadsTo, Ready, is_plain_for, plain_in, plain_in_prelude, plain_entry}
@@ -38,18 +38,18 @@ use Rattle.arrivals.proofs.Others.{arrival_keywords, arrival_plainly}
 use Rattle.arrivals.proofs.Plainly.{plain_first, plain_reads}
 
 -- What a plain name means, by the record that it is read by.
-module _ (s : Snapshot) (W : List ℕ) (from k d n : ℕ) {r : Reading} (e : record_read s W r ≡ reads s from k (plain n)) where
-  pub means_scope : (h : ℕ) {t : Bool} → r ≡ ByScope h
+module _ (s : Snapshot) (W : List ℕ) (from k d n : ℕ) {r : Option Reading} (e : record_read s W r ≡ reads s from k (plain n)) where
+  pub means_scope : (h : ℕ) {t : Bool} → r ≡ Some (ByScope h)
       → t ≡ same_item (item_of s (scope_at W h).ns (scope_at W h).definition) (defined_item k d)
       → t ≡ is_item (defined_item k d) (means s from k (plain n))
   unfolding means item_in is_item record_read
   means_scope h q u = u ∙ ap (λ o. is_item (defined_item k d) (item_in o)) (ap (record_read s W) (sym q) ∙ e)
 
-  pub means_extern : (h : ℕ) → r ≡ ByExtern h → false ≡ is_item (defined_item k d) (means s from k (plain n))
+  pub means_extern : (h : ℕ) → r ≡ Some (ByExtern h) → false ≡ is_item (defined_item k d) (means s from k (plain n))
   unfolding means item_in is_item record_read same_item
   means_extern h q = ap (λ o. is_item (defined_item k d) (item_in o)) (ap (record_read s W) (sym q) ∙ e)
 
-  pub means_nothing : r ≡ Nothing → false ≡ is_item (defined_item k d) (means s from k (plain n))
+  pub means_nothing : r ≡ None → false ≡ is_item (defined_item k d) (means s from k (plain n))
   unfolding means item_in is_item record_read
   means_nothing q = ap (λ o. is_item (defined_item k d) (item_in o)) (ap (record_read s W) (sym q) ∙ e)
 

@@ -81,6 +81,7 @@ fn arrive_plainly(
 }
 
 /// The first path to the item, of those that begin with a name or of the others, over the n rows of their run.
+// `named` is a variable of the definitions (`Ready`, `arrival`), of which both cases are proved at once; so it is a bool.
 pub fn arrive(
     words: &[u32],
     area: &[u32],

@@ -53,9 +53,9 @@ fn means_item(
         ns.0 (plain name.0)) }
 {
     match read_plain(words, area, l, from, ns.0, name) {
-        Reading::Scope(h) => is_entry_for(words, l, h, Item::Def(ns, d)),
-        Reading::Extern(_) => false,
-        Reading::Nothing => false,
+        Some(Reading::Scope(h)) => is_entry_for(words, l, h, Item::Def(ns, d)),
+        Some(Reading::Extern(_)) => false,
+        None => false,
     }
 }
 

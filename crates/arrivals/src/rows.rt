@@ -20,6 +20,7 @@ use snapshot::record::scope_name;
 use snapshot::words::word;
 
 // The path of the module's row, of n rows.
+// Of the rows in the area n are used; the clauses of the run are stated over the area and n.
 pub(crate) fn row_of(area: &[u32], n: usize, m: ModuleId) -> Option<LastStep>
     requires { n ≤ module_limit }
     ensures { (s : Snapshot) (from modules : ℕ) → Run modules area.now n

@@ -8,7 +8,6 @@ use Rattle.snapshot.specs.Sizes.{dependency_size, import_size}
 use Rattle.snapshot.specs.Records.{Snapshot, Dependency, Import, dependency_at, import_at}
 use Rattle.snapshot.specs.Layouts.{table_words, snap_of}
 use Rattle.snapshot.specs.declared.layout.Layout.{Layout}
-use Rattle.snapshot.proofs.Laws.{rows_none}
 use Rattle.hir_def.specs.Finds.{select}
 use Rattle.hir_def.specs.Nameres.{by_sysroot}
 use Rattle.hir_def.specs.ImportMap.{import_info_for, is_hidden}
@@ -127,11 +126,6 @@ pub record Running (A₀ A : List ℕ) (left : ℕ) (best : Found) (rest goal : 
 pub running_done : {A₀ A : List ℕ} {left : ℕ} {best : Found} {rest goal : Out Tank} → Running A₀ A left best rest goal
     → out_of best ≡ rest → Searched A₀ goal A best
 running_done g e = record { same = ap found_of (e ∙ g.same); tables = g.tables }
-
--- nothing is left
-pub left_none : {R : Type 0} (p : R → Bool) (f : ℕ → R) (n k : ℕ) → n ≤ k → left_of p f n k ≡ []
-unfolding select
-left_none p f n k h = ap (select p) (rows_none f k n h)
 
 module _ (W A₀ A : List ℕ) (l : Layout) (x : FindPathCtx) (left : ℕ) (p : Prepared W A₀ l x) (some : 0 < left) where
   pub imports_end : (best : Found) (is : List Import) → is ≡ [] → out_of best ≡ imports (snap_of W A₀ l) x left (out_of best) is

@@ -231,10 +231,7 @@ fn find_in_deps(
 {
     let mut best = o;
     let mut k = 0;
-    while k < l.dependencies {
-        let Some(next) = next_dependency(words, l, k, x.from_crate, which) else {
-            return best;
-        };
+    while let Some(next) = next_dependency(words, l, k, x.from_crate, which) {
         best = find_in_dep(
             words,
             area,
@@ -268,10 +265,7 @@ fn find_in_dep(
 {
     let mut best = o;
     let mut k = 0;
-    while k < l.imports {
-        let Some(next) = import_info_for(words, l, k, c, item) else {
-            return best;
-        };
+    while let Some(next) = import_info_for(words, l, k, c, item) {
         best = find_import(words, area, l, x, left, next.head, best);
         k = next.number + 1;
     }

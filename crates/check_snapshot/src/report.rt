@@ -1,4 +1,5 @@
 //! The text that is printed.
+//! It is put into a buffer that `main` makes once: nothing here takes memory, and the clause says each byte.
 ghost use Rattle.std.specs.Prelude.{◌≡◌, ◌≤◌, length, take, drop};
 ghost use Rattle.snapshot.specs.Limits.{word_limit, area_limit};
 ghost use Rattle.snapshot.specs.Refusals.{refusal_number};

@@ -30,6 +30,7 @@ fn answered(
 }
 
 /// The answer to a question on checked words, which stay so: the next question can follow.
+// `reach_on` has these arms over its own answer; `unwrap_or_else` with a trait for how a refusal is told would be longer.
 pub fn report_on(
     words: &[u32],
     area: &mut [u32],

@@ -12,6 +12,7 @@ pub use line::line::{LineBytes, put_refusal};
 use snapshot::layout::Layout;
 
 /// Puts the line of a question on checked words and its end at the front, and answers its length. The words stay checked.
+// `routed_line_on` differs in the writer and in how many bytes serve: a writer as a closure would have to carry that bound.
 pub fn line_on(
     words: &[u32],
     area: &mut [u32],

@@ -1,4 +1,5 @@
 //! An entry added to a snapshot, or removed from it, in the words that the caller lends.
+//! The words are lent with room at their end: the snapshot is the first `count`, and no Vec could grow, for want of a heap.
 ghost use Rattle.std.specs.Prelude.{◌≡◌, List, ℕ, ◌≤◌, length, take};
 ghost use Rattle.snapshot.specs.Records.{Snapshot};
 ghost use Rattle.check_rules.specs.Verdict.{verdict, accept};
@@ -40,6 +41,7 @@ fn told(count: usize, r: Result<usize, Refusal>) -> Edited
 }
 
 // The check of the first words, so many, in a work area that is cleared after it.
+// In all edits `count` words are the snapshot and those past them room to grow into, so the slice is longer than the count.
 fn opened(words: &[u32], count: usize, area: &mut [u32]) -> Result<Layout, Refusal>
     ensures opens { Opens words.now count (length area.old) result }
     ensures area_after { area.new ≡ area_after area.old }

@@ -73,6 +73,7 @@ pub enum Outcome {
 // A report: an outcome, and the number of a refusal; then the path, the charges, and empty 0 or 1;
 // the C report holds numbers, for `outcome` an `Outcome` and for `kind` a `PathKind`;
 // `left` and `sought` are those of the first charge that found the tank empty, 0 where none did; `route` and `steps` are the path's.
+// Arrays with `count` and `steps` for lengths: C reads this, and the library has no heap for a Vec.
 #[derive(Clone, Copy)]
 pub struct Report {
     pub outcome: usize,

@@ -105,6 +105,7 @@ pub fn item_of(words: &[u32], l: Layout, ns: usize, d: DefinitionId) -> Item
     Item::Def(Namespace(ns), d)
 }
 
+// `same_item` is the definition that rules and searches are stated over; `==` of a derive would need a law to it at each call.
 pub fn same_item(a: Item, b: Item) -> bool
     ensures { result ≡ same_item a b }
 {

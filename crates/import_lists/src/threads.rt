@@ -32,6 +32,7 @@ fn gather(words: &[u32], area: &mut [u32], l: Layout) -> usize
 }
 
 // Threads the entries by module, the last first.
+// The heads stand in the area before the threads that this writes, so their n is a number and no slice of its own.
 fn thread_entries(words: &[u32], area: &mut [u32], n: usize)
     requires area_len { (length area.old ≡ area_limit) × (entries_room + n ≤ heads_room) }
     requires by_index { ((b : ℕ) → b < module_limit → get_or area.old (heads_room + b) 0 ≡ 0)

@@ -1,4 +1,6 @@
 //! The import records of a crate, written to a target or only counted: one walk for both.
+//! The target is words that C lends, in a library without a heap: no Vec to push to, so each function answers the place after its words.
+//! `write` stays a bool: `Space` and `Wrote` are stated over it, and an enum of two variants would be turned into it in each clause.
 ghost use Rattle.std.specs.Prelude.{ℕ, ◌≡◌, ◌+◌, ◌<◌, ◌≤◌, [], ◌∷◌};
 ghost use Rattle.snapshot.specs.Limits.{module_limit};
 ghost use Rattle.snapshot.specs.MemberKinds.{member_kind_of};

@@ -17,6 +17,7 @@ use snapshot::layout::Layout;
 use snapshot::record::{import_bits, import_definition, import_ns, import_owner};
 
 // Whether the import with its head at a place is one of the crate's, of the item.
+// An import's owner is a crate and an entry's a module, at other offsets: `item_scope::is_for` has this shape over other readers.
 fn is_import(words: &[u32], l: Layout, h: usize, c: Crate, item: Item) -> bool
     requires { word_count l < 2 ^ 32 }
     ensures { (A : List ℕ) → result ≡ is_import (snap_of words.now A l) c.0 item (import_at words.now h) }

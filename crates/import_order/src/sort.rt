@@ -31,6 +31,7 @@ impl Lists {
 }
 
 // Copies words from a place on to the spare ones.
+// `copy_within` with its bound as a clause, which `merge` cites.
 fn copy(area: &mut [u32], from: usize, n: usize)
     requires { (length area.old ≡ area_limit) × (from + n ≤ heads_room) × (n ≤ 2048) }
     ensures { Copied area.old area.new from n }
@@ -58,6 +59,7 @@ fn second_first(
 }
 
 // Merges two runs of entries, the first m and the next n from a place on.
+// Two cursors: which of them moves depends on the entries read, so no range or iterator gives the next place.
 fn merge(words: &[u32], area: &mut [u32], l: Layout, from: usize, m: usize, n: usize)
     requires { Ready words.now area.old l × (entries_room ≤ from) × (from + m + n ≤ heads_room) }
     ensures { Merges words.now area.old l area.new from m n }

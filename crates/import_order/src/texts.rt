@@ -13,6 +13,7 @@ use snapshot::layout::Layout;
 use snapshot::text::text_of;
 
 // Whether the first bytes of a text stand before those of another.
+// Three bytes stand in a word: where the text ends inside the last one, no slice of words has that end.
 fn bytes_before(a: &[u32], n: usize, b: &[u32], m: usize) -> bool
     requires { (n ≤ 3 * length a.now) × (m ≤ 3 * length b.now) }
     ensures { result ≡ text_before (take n (unpacked a.now)) (take m (unpacked b.now)) }

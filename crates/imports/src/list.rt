@@ -25,6 +25,7 @@ pub struct Listed {
 }
 
 // The answer for a count, or for a refusal.
+// Into this call's own answer; the one of `join` has the same fields, but each call's specification names its own.
 fn told(r: Result<usize, Refusal>) -> Listed
     ensures { result ≡ told r }
 {

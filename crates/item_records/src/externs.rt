@@ -16,6 +16,7 @@ use snapshot::layout::Layout;
 use snapshot::record::{extern_name, extern_owner, extern_target};
 use snapshot::refusal::Refusal;
 
+// Owner below the crates, target below the modules; a member's three fields are held against other counts.
 fn defined(words: &[u32], l: Layout, at: usize) -> bool
     ensures { result ≡ extern_defined (counts_in l) (extern_at words.now at) }
 {

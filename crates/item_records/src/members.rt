@@ -24,6 +24,7 @@ fn in_range(words: &[u32], at: usize) -> bool
     member_kind(words, at).is_some() & (member_bits(words, at) <= 3)
 }
 
+// A parent and a definition against the definitions: the shape of an extern's test, with no field and no count alike but the names.
 fn defined(words: &[u32], l: Layout, at: usize) -> bool
     ensures { result ≡ member_defined (counts_in l) (member_at words.now at) }
 {

@@ -21,6 +21,7 @@ use snapshot::record::{
 };
 use snapshot::refusal::Refusal;
 
+// By the readers of a record; `scope_edits::entries` tests the same of words that are no record yet, whose first word has no kind.
 fn in_range(words: &[u32], at: usize) -> bool
     ensures { result ≡ scope_range (scope_at words.now at) }
 {

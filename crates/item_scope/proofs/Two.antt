@@ -1,5 +1,4 @@
 -- A search by one test, and from the first that passes on by a second that passes no more.
-use Rattle.hir_def.specs.declared.Place.{Place}
 use Prim.Native.Nat.{ℕ, ◌+◌, ◌*◌}
 use mathlib.Core.Path.{◌≡◌, refl, sym, ap, ap₂}
 use mathlib.Core.List.{List}

@@ -1,4 +1,5 @@
 //! The scope of a module, after item_scope.rs: its entries in record order.
+//! `declared` and `fresh` are bools of `counts` and `preferred`, set by bits of the options: two enums would be turned back in each clause.
 #![tactic(auto)]
 
 ghost use Rattle.std.specs.Prelude.{◌≡◌, List, Bool, true, false, ◌&&◌, ℕ, ◌+◌, ◌*◌, ◌^◌, ◌<◌};
@@ -34,6 +35,7 @@ pub fn is_deprecated(words: &[u32], h: usize) -> bool
 }
 
 /// Whether the entry with its head at a place is one of the module's for the item.
+// Over the fields of a scope entry; `import_map::is_import` reads an import's, so one of both would take four readers as parameters.
 pub fn is_for(words: &[u32], l: Layout, h: usize, m: ModuleId, item: Item) -> bool
     requires { word_count l < 2 ^ 32 }
     ensures { (A : List ℕ) → result ≡ is_for (snap_of words.now A l) m.0 item (scope_at words.now h) }

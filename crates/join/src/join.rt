@@ -25,6 +25,7 @@ pub struct Joined {
 }
 
 // The answer for a count, or for a refusal.
+// `imports::list::told` makes a `Listed`: two answers of two calls of the C interface, and a shared type would stand in neither crate.
 fn told(r: Result<usize, Refusal>) -> Joined
     ensures { result ≡ told r }
 {

@@ -18,6 +18,7 @@ use snapshot::record::{definition_first, definition_kind};
 use snapshot::words::payload;
 
 /// The number that a name of the second part has among the first's, their count for none.
+// `first` is a snapshot's words, of which the names are the front: their number is no length.
 pub fn place_of_name(first: &[u32], count: usize, second: &[u32], area: &[u32], n: Name) -> usize
     requires { (count ≤ name_limit) × (n.0 < length area.now) }
     ensures { result ≡ place_of (same_name (name_at second.now (name_head area.now n.0))) 0

@@ -34,6 +34,7 @@ pub struct New {
 
 // Writes the number of an element of the second part that stands at a place among so many of the first's, the next new one where it is past them;
 // answers how many are new.
+// The tables are words of the area that C lends; no map is made, since there is no heap.
 fn put_number(area: &mut [u32], at: usize, old: usize, place: usize, fresh: usize) -> usize
     requires { (at < length area.old) × (old + fresh < 2 ^ 32) }
     ensures { (area.new ≡ set area.old at (number_by old place fresh)) × (result ≡ fresh_by old place fresh) }

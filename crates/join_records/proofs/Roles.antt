@@ -1,5 +1,5 @@
 -- The roles of a record's words.
-use Prim.Native.Nat.{ℕ, zero, suc, ◌+◌, ◌<◌, ◌≤◌}
+use Prim.Native.Nat.{ℕ, zero, suc, ◌<◌, ◌≤◌}
 use mathlib.Core.Path.{◌≡◌, refl, sym, ap, ◌∙◌}
 use mathlib.Core.List.{List, [], ◌∷◌, map}
 use native.Mathlib.Omega.{arith}
@@ -12,7 +12,6 @@ use Rattle.snapshot.specs.declared.kind.Kind.TheVariants.{Name, Crate, Dependenc
 use Rattle.join_records.specs.Moves.{role_of}
 use Rattle.join_records.specs.Roles.{role_number}
 use Rattle.join_records.specs.declared.fields.Role.{Role}
-use Rattle.join_records.specs.declared.fields.Role.TheVariants.{Nothing}
 use Rattle.join_records.proofs.Laws.{role_plain, role_past, role_long}
 
 role_twelve : (i : ℕ) → 0 ≡ role_of 12 i

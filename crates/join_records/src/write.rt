@@ -1,4 +1,6 @@
 //! The words of both written to a target, or only counted: one walk for both.
+//! C lends the target and nothing is allocated: words are put at a place, and the place after them is answered.
+//! `write` is the flag of `Space` and `Wrote`, counting where it is false; two variants in its place would say the same.
 ghost use Rattle.std.specs.Prelude.{◌≤◌, ◌<◌, ◌≡◌, length};
 ghost use Rattle.snapshot.specs.Limits.{word_limit};
 ghost use Rattle.snapshot.specs.Layouts.{word_count};

@@ -8,7 +8,7 @@ use native.Mathlib.Numerals.{add-one}
 use borrow.Author.Tests.{eq-eqb, ne_eqb, lt-ltb, le-ltb, ltb-true, ltb-false}
 use lib.Dec.{eqb, ltb}
 use lib.ListN.{length, get_or, take, length-take, length-drop, get_or-eq_default}
-use lib.Seq.{take-suc}
+use lib.Seq.{take-suc, take_all}
 use Rattle.snapshot.specs.Words.{pay_of, words_of, text_at}
 use Rattle.snapshot.specs.Records.{Name, Snapshot, name_at}
 use Rattle.snapshot.specs.Layouts.{name_head, snap_of}
@@ -284,12 +284,12 @@ tail_path f k ns (suc i) h =
     ∙ path_next f k ns i (get_or ns i 0) _ (omega arith) refl refl
     ∙ ap (path_to f k ns) (add-one i)
 
-pub path_done : (f : ℕ → List ℕ) (k : ℕ) (ns : List ℕ) (i n : ℕ) → i ≤ n → n ≤ i → n ≤ length ns
+pub path_done : (f : ℕ → List ℕ) (k : ℕ) (ns : List ℕ) (i : ℕ) → i ≤ length ns → length ns ≤ i
     → joined (bytes_of "::") (prefix_parts k) ++ tail_to f (eqb k 1 || (eqb k 2 || (eqb k 3 || eqb k 4))) ns i
-    ≡ joined (bytes_of "::") (prefix_parts k ++ map f (take n ns))
-path_done f k ns i n h g m =
-    let e : i ≡ n = omega arith in
-    tail_path f k ns i (omega arith) ∙ ap (path_to f k ns) e ∙ path_whole f k ns n
+    ≡ joined (bytes_of "::") (prefix_parts k ++ map f ns)
+path_done f k ns i h g =
+    tail_path f k ns i h ∙ path_whole f k ns i
+    ∙ ap (λ t. joined (bytes_of "::") (prefix_parts k ++ map f t)) (take_all i ns g)
 
 pub no_prefix : (k : ℕ) → (k ≡ 1 → ⊥) → (k ≡ 2 → ⊥) → (k ≡ 3 → ⊥) → [] ≡ joined (bytes_of "::") (prefix_parts k)
 unfolding prefix_parts joined

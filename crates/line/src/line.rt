@@ -1,4 +1,5 @@
 //! The line of a report.
+//! In bytes that C lends, for want of a heap; what each piece adds at most is a clause, which a Display does not have.
 ghost use Rattle.std.specs.Prelude.{◌++◌, ℕ, ◌+◌, ◌≤◌, length};
 ghost use Rattle.snapshot.specs.Limits.{line_limit};
 ghost use Rattle.snapshot.specs.Records.{Snapshot};
@@ -53,14 +54,14 @@ fn put_outcome(
     let names = r.names;
     if r.outcome == Outcome::Found as usize {
         let a = put(out, 0, b"found ");
-        return put_path(out, a, words, area, l, edition, r.kind, &names, r.count);
+        return put_path(out, a, words, area, l, edition, r.kind, &names[..r.count]);
     }
     if r.outcome == Outcome::None as usize {
         return put(out, 0, b"none -");
     }
     if r.outcome == Outcome::Misleads as usize {
         let a = put(out, 0, b"misleads ");
-        return put_path(out, a, words, area, l, edition, r.kind, &names, r.count);
+        return put_path(out, a, words, area, l, edition, r.kind, &names[..r.count]);
     }
     let b = put(out, 0, b"refused ");
     put_number(out, b, r.number)

@@ -1,5 +1,6 @@
 //! The text of a path.
-ghost use Rattle.std.specs.Prelude.{map, ◌++◌, ◌+◌, ◌≤◌, ◌<◌, length, take};
+//! Without a heap there is no String to push to: a piece goes into the lent bytes at a place, and the place after it is answered.
+ghost use Rattle.std.specs.Prelude.{map, ◌++◌, ◌+◌, ◌≤◌, ◌<◌, length};
 ghost use Rattle.snapshot.specs.Layouts.{snap_of};
 ghost use Rattle.accept.specs.Post.{Reads};
 ghost use Rattle.printing.specs.Output.{Put};
@@ -30,6 +31,7 @@ fn put_prefix(out: &mut [u8], at: usize, kind: usize) -> usize
 }
 
 // Puts a name, after a joint where something stands before it.
+// `joint` is a test's result: whether anything stands before the name.
 fn put_part(
     out: &mut [u8],
     at: usize,
@@ -62,20 +64,19 @@ pub(crate) fn put_path(
     edition: usize,
     kind: usize,
     names: &[usize],
-    count: usize,
 ) -> usize
     requires reads { Reads words.now area.now l × (at + 4117 ≤ length out.old) }
-    requires count_bound { (count ≤ 16) × (count ≤ length names.now) }
+    requires count_bound { length names.now ≤ 16 }
     ensures put { Put out.old at
         (joined (bytes_of "::") (prefix_parts kind ++ map (written_of (snap_of words.now area.now l) edition)
-        (take count names.now))) out.new result }
+        names.now)) out.new result }
     ensures upper_bound { result ≤ at + 4117 }
 {
     let leading = (kind == PathKind::SelfModule as usize)
         | ((kind == PathKind::Super as usize)
             | ((kind == PathKind::Crate as usize) | (kind == PathKind::Absolute as usize)));
     let mut to = put_prefix(out, at, kind);
-    for (i, name) in names[..count].iter().enumerate() {
+    for (i, name) in names.iter().enumerate() {
         let n = Name(*name);
         to = put_part(out, to, words, area, l, edition, n, leading | (0 < i));
     }

@@ -1,4 +1,5 @@
 //! The text of a name and of a number.
+//! The bytes are lent by C and there is no heap, so they are copied out of the words one by one.
 ghost use Rattle.std.specs.Prelude.{◌≡◌, ◌+◌, ◌*◌, ◌≤◌, ◌<◌, length, take, get_or};
 ghost use Rattle.snapshot.specs.Layouts.{snap_of};
 ghost use Rattle.accept.specs.Post.{Reads};
@@ -36,6 +37,7 @@ pub fn text_byte(text: &[u32], i: usize) -> u8
 }
 
 // Puts the first bytes of such a text.
+// n bytes, of which a word has three: a slice of words cannot end inside a word.
 fn put_text(out: &mut [u8], at: usize, text: &[u32], n: usize) -> usize
     requires { (at + n ≤ length out.old) × (n ≤ 3 * length text.now) }
     ensures put { Put out.old at (take n (unpacked text.now)) out.new result }

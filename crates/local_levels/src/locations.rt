@@ -111,17 +111,14 @@ fn push_next(
 {
     let mut run = n;
     let mut k = 0;
-    loop {
-        let e = modules_from(words, area, l, k, m);
-        let Some(next) = e else {
-            return run;
-        };
+    while let Some(next) = modules_from(words, area, l, k, m) {
         let to = ModuleId(first_of(words, l, scope_definition(words, next.head)));
         if leads(words, area, l, from, next.head, to) {
             run = push_module(area, s, run, item, to);
         }
         k = next.number + 1;
     }
+    run
 }
 
 /// The modules that a local search for the item takes, in order, as a run at the top.

@@ -54,6 +54,7 @@ impl fmt::Display for Kind {
 }
 
 /// A query; the numbers that its kind has no use for are 0 in the list.
+// Four numbers in the list for every kind of query: no count beside them.
 #[derive(Clone, Copy, Debug, PartialEq, Eq)]
 pub struct Query {
     pub kind: Kind,

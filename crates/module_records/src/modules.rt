@@ -24,6 +24,7 @@ fn defined(words: &[u32], l: Layout, at: usize) -> bool
 }
 
 /// Whether one of the first n modules is of a map.
+// The table of modules has 512 places in the area, of which the first n are filled.
 pub fn has_module(area: &[u32], n: usize, map: usize) -> bool
     requires { n ≤ module_limit }
     ensures { result ≡ any (is_in map) (modules_of area.now n) }

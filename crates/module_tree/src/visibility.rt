@@ -60,6 +60,7 @@ fn in_module(words: &[u32], area: &[u32], l: Layout, viewer: ModuleId, target: M
 }
 
 /// Whether a visibility reaches the viewer.
+// The walk of the Rust; privacy (`seen_entries`) has arms of its own, and a theorem compares the two.
 pub fn is_visible_from(
     words: &[u32],
     area: &[u32],

@@ -19,6 +19,7 @@ use snapshot::record::{scope_definition, scope_ns};
 
 /// The item's entry in a module, or around its blocks: the first; only entries declared there where these alone count; by options bit 32
 /// the first in its scope that isn't deprecated, if there is one.
+// `declared_only` and `fresh` are what the context says of the question, and two variables of type Bool in the definition.
 pub fn scope_entry(
     words: &[u32],
     area: &[u32],

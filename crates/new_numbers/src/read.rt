@@ -16,6 +16,7 @@ pub fn new_name(area: &[u32], name: usize) -> usize
 }
 
 /// The new number of a definition of the second snapshot.
+// The table and the type of the number are others than a name's: kept apart so that no name is looked up among definitions.
 pub fn new_definition(area: &[u32], definition: usize) -> usize
     ensures { NewDefinition area.now definition result }
 {

@@ -40,6 +40,7 @@ const KIND_TEXT: [usize; 5] = [0, 4, 5, 5, 2];
 const KIND_NAMES: [usize; 5] = [0, 0, 1, 1, 0];
 
 /// The text length of a path kind.
+// A table of five with 0 past its end; of the other such table, `snapshot::kind::fixed`, the length is another, and so the test.
 pub fn path_kind_len(kind: usize) -> usize
     ensures { (result ≡ path_kind_len kind) × (result ≤ 5) }
 {
@@ -150,6 +151,7 @@ pub fn unstably(c: Choice) -> Choice
 }
 
 // Whether the newcomer, with the name to come, takes the place of the current choice.
+// `prefer` is `prefer_prelude` of the Rust, a setting of the question.
 fn better(
     words: &[u32],
     area: &[u32],
@@ -201,6 +203,7 @@ impl Choice {
     }
 
     // One name more, by a step, with a flag given for `prelude`.
+    // `flag` is the value of a field, not a switch.
     fn extended(
         self,
         words: &[u32],
@@ -269,27 +272,17 @@ impl Choice {
     }
 }
 
-// One less, or 0.
-fn less_one(n: usize) -> usize
-    ensures { result ≡ n - 1 }
-{
-    if n == 0 {
-        return 0;
-    }
-    n - 1
-}
-
 /// The length left for a step: one less than the caller's, or than that of the choice so far if it is smaller.
 pub fn length_left(left: usize, best: Choice) -> usize
     requires { best.count < 2 ^ 32 }
     ensures { result ≡ length_left left best }
 {
     if !best.found {
-        return less_one(left);
+        return left.saturating_sub(1);
     }
     let n = path_len(best);
     if n < left {
-        return less_one(n);
+        return n.saturating_sub(1);
     }
-    less_one(left)
+    left.saturating_sub(1)
 }

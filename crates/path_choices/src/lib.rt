@@ -6,6 +6,7 @@ pub mod choices;
 // A path, or none. `kind` is the number of a `PathKind`, as the C report holds it; `path_text_len` is the length of its text;
 // `has_prelude_segment` says that a name of it is `prelude`. `route` says how it came about, a step for its start and one for each further
 // name: eight times the place of the record used, plus the rule.
+// No heap, so both lists are arrays of the most that there can be; `count` and `steps` are how many stand in them.
 #[derive(Clone, Copy)]
 pub struct Choice {
     pub found: bool,

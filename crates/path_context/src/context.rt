@@ -26,6 +26,7 @@ fn bit(n: usize, value: usize) -> bool
     n / value % 2 == 1
 }
 
+// `block` is the result of `in_block`, passed on.
 fn plain_if(block: bool, prefix: usize) -> usize
     ensures { result ≡ plain_if block prefix }
 {

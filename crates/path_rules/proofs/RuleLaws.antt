@@ -1,5 +1,5 @@
 -- Laws of the rules, for the code.
-use Prim.Native.Nat.{ℕ, zero, suc, ◌≤◌}
+use Prim.Native.Nat.{ℕ, zero, suc}
 use mathlib.Core.Path.{◌≡◌, refl, sym, ◌∙◌, ap, ap₂}
 use mathlib.Core.List.{List, [], ◌∷◌}
 use mathlib.Core.Bool.{Bool, true, false, ◌||◌, not}
@@ -10,7 +10,6 @@ use borrow.Author.Tests.{eq-eqb, ne_eqb}
 use Rattle.snapshot.specs.Records.{Snapshot, Scope, Prelude, Extern, scope_at}
 use Rattle.snapshot.specs.Layouts.{snap_of}
 use Rattle.snapshot.specs.declared.layout.Layout.{Layout}
-use Rattle.snapshot.proofs.Laws.{past}
 use Rattle.record_rules.specs.Stands.{counts_in}
 use Rattle.accept.specs.Post.{Reads}
 use Rattle.accept.specs.Valid.{ScopeFits}

@@ -196,6 +196,7 @@ fn extern_rule(
 }
 
 /// A crate's root: `crate` in the viewer's crate or where no extern may be used, else its extern name.
+// `maybe_extern: bool` is the parameter of the Rust's `find_path_for_module`.
 pub fn root_rule(
     words: &[u32],
     area: &[u32],

@@ -10,7 +10,7 @@ use borrow.Author.Tests.{lt-ltb, le-ltb}
 use borrow.Rule.Slice.PartMut.{put_mid}
 use lib.Dec.{ltb}
 use lib.ListN.{length, get_or, take, drop, set, length-append, take-append-drop}
-use lib.Seq.{take-suc, take-suc-set, take-length, length-take-le, drop-set-lt, drop-drop}
+use lib.Seq.{take-suc, take-suc-set, length-take-le, drop-set-lt, drop-drop}
 use Rattle.std.proofs.lemmas.Slice.{take-put_mid, drop-put_mid}
 use Rattle.snapshot.specs.Lists.{rows}
 use Rattle.snapshot.proofs.Laws.{rows_snoc}

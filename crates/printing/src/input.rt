@@ -39,6 +39,7 @@ pub fn word_in(bytes: &[u8], at: usize) -> u32
 }
 
 /// Writes the first n words of the bytes; the words past them stay.
+// C and the programs lend more words than an input has: those past n stay, as the clause says.
 pub fn words_in(bytes: &[u8], words: &mut [u32], n: usize)
     requires { (n ≤ length words.old) × (n ≤ word_limit) }
     ensures { (take n words.new ≡ words_in bytes.now n) × (drop n words.new ≡ drop n words.old) }

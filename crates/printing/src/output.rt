@@ -1,4 +1,5 @@
 //! Text put into bytes, one piece after the other.
+//! No heap: C lends the buffer, so a piece is put at a place of it and no String is made; each clause says what the bytes are.
 ghost use Rattle.std.specs.Prelude.{◌+◌, ◌≤◌, [], ◌∷◌, length};
 ghost use Rattle.printing.specs.Output.{Put, decimal_to};
 

@@ -42,6 +42,7 @@ fn counted(
 }
 
 /// The reach of a module on checked words, which stay so.
+// The arms of `report_on` with this crate's `refused`: a reach and a report share no field but the number.
 pub fn reach_on(words: &[u32], area: &mut [u32], c: Result<Layout, Refused>, v: Viewer) -> Reach
     requires { Judged words.now area.old c × (length area.old ≡ area_limit) }
     ensures { Reached words.now v c area.new result }

@@ -16,6 +16,7 @@ use snapshot::ids::WordCount;
 use snapshot::refusal::Refusal;
 
 // The reach, in a work area that serves and is cleared.
+// As in `answer`, but `reach_on` answers a `Reach`: a generic of report and closure would be no shorter.
 fn reach_within(words: &[u32], area: &mut [u32], v: Viewer) -> Reach
     requires { length area.old ≡ area_limit }
     ensures value { result ≡ reach_of words.now area_limit v }

@@ -1,4 +1,5 @@
 //! The printed line of a reach.
+//! It is put into bytes that are lent, as lines are: no heap, so neither a String nor an iterator that joins texts.
 #![tactic(auto)]
 
 ghost use Rattle.std.specs.Prelude.{map, ◌++◌, ◌*◌, ◌≤◌, ◌<◌, length};

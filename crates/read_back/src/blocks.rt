@@ -14,6 +14,7 @@ use snapshot::ids::{ModuleId, Name};
 use snapshot::layout::Layout;
 
 // The block's parent of a block map's root, none of any other module.
+// How names are read is defined in `readings`, privacy in `tree_rules`: alike here, and kept apart so that neither follows the other.
 fn outward(words: &[u32], area: &[u32], l: Layout, m: ModuleId) -> Option<ModuleId>
     requires { Reads words.now area.now l × (m.0 < l.modules) }
     ensures { plus_one result ≡ outward_of (snap_of words.now area.now l) m.0 }
@@ -25,6 +26,7 @@ fn outward(words: &[u32], area: &[u32], l: Layout, m: ModuleId) -> Option<Module
 }
 
 /// The module, or where it is a block map's root the one that this stands for.
+// Over `outward`; `module_around` is over privacy's step, and its clause is of that definition.
 pub(crate) fn stands_for(words: &[u32], area: &[u32], l: Layout, m: ModuleId) -> ModuleId
     requires { Reads words.now area.now l × (m.0 < l.modules) }
     ensures { (result.0 ≡ stands_for (snap_of words.now area.now l) m.0) × (result.0 < l.modules) }

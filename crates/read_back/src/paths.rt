@@ -61,6 +61,7 @@ fn super_of(words: &[u32], area: &[u32], l: Layout, from: ModuleId) -> Option<It
 }
 
 // The item that a path means in a module.
+// `count` of a path's sixteen names, passed on from a choice as it stands.
 fn reads_to(
     words: &[u32],
     area: &[u32],
@@ -100,6 +101,7 @@ fn reads_to(
 }
 
 /// Whether a path, read from a module, means exactly the item.
+// The names are a choice's array: `take count` of it is the path in each statement about reading back.
 pub fn reads_back(
     words: &[u32],
     area: &[u32],

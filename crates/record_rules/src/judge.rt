@@ -6,6 +6,7 @@ ghost use Rattle.record_rules.specs.Stands.{number_of};
 use snapshot::refusal::Refusal;
 
 /// Refused by the first test that fails.
+// Each flag is the result of a test of the record; so in `judge_crate`.
 pub fn judge(
     range: bool,
     defined: bool,

@@ -36,16 +36,6 @@ fn text_bound(b: usize) -> usize
     16777216
 }
 
-// Three less, or 0.
-fn less(b: usize) -> usize
-    ensures { result ≡ b - 3 }
-{
-    if b < 3 {
-        return 0;
-    }
-    b - 3
-}
-
 // Whether n words after a head, with the bytes in them, have nothing past these.
 fn padded(words: &[u32], head: usize, bytes: usize, n: usize) -> bool
     requires { n < 2 ^ 32 }
@@ -57,7 +47,7 @@ fn padded(words: &[u32], head: usize, bytes: usize, n: usize) -> bool
         if most <= field(words, head, 1 + i) {
             return false;
         }
-        b = less(b);
+        b = b.saturating_sub(3);
     }
     true
 }
@@ -72,6 +62,7 @@ fn in_range(words: &[u32], at: usize) -> bool
 }
 
 // Whether the n words after two heads are the same.
+// The right words may end before the n: past the end a word reads as 0, so `==` of two slices is another test.
 fn same_words(left: &[u32], a: usize, right: &[u32], b: usize, n: usize) -> bool
     requires { n < 2 ^ 32 }
     ensures { result ≡ eq_list (rows (λ i. get_or left.now (a + 1 + i) 0) 0 n) (rows (λ i. get_or right.now (b + 1 + i) 0) 0 n) }
@@ -87,6 +78,7 @@ fn same_words(left: &[u32], a: usize, right: &[u32], b: usize, n: usize) -> bool
 }
 
 // Whether two names have the same text, with the words of the first one and the last of them: mostly that one differs.
+// Names are words of a snapshot, not strings: there is no type whose equality could be derived.
 fn same_text(left: &[u32], a: usize, right: &[u32], b: usize, n: usize, last: usize) -> bool
     requires { (b + n < 2 ^ 33) × (n ≡ words_of (pay_of (get_or left.now a 0))) × (last ≡ pay_of (get_or left.now (a + n) 0)) }
     ensures { result ≡ same_name (name_at left.now a) (name_at right.now b) }
@@ -103,6 +95,7 @@ fn same_text(left: &[u32], a: usize, right: &[u32], b: usize, n: usize, last: us
 }
 
 /// Whether one of the n names with these heads has the text of the name at a place.
+// The heads are the front of an area or of a table: n of them are filled.
 pub fn known(words: &[u32], at: usize, names: &[u32], heads: &[u32], n: usize) -> bool
     requires { (n < 2 ^ 32) × (n ≤ length heads.now) }
     ensures { result ≡ any (same_name (name_at words.now at))
@@ -140,6 +133,7 @@ pub fn is_builtin(words: &[u32], at: usize) -> bool
 }
 
 // Whether a name with the key has the text of the name at a place.
+// Both the heads of the n names and their chains stand in the area, so it is passed whole.
 fn repeated(words: &[u32], at: usize, area: &[u32], n: usize, key: usize) -> bool
     requires chained { Chained area.now name_heads name_links (λ i. name_key (name_at words.now (name_head area.now i))) n }
     requires n_le_name_limit { (n ≤ name_limit) × (key ≡ name_key (name_at words.now at)) }

@@ -1,4 +1,5 @@
 //! Whether a record repeats an earlier one of its kind.
+//! `owner: bool`, whether a record's owner counts, is a variable of `same_by`: the kinds differ in it as in the number of fields.
 ghost use Rattle.std.specs.Prelude.{◌≡◌, ◌+◌, ◌-◌, ◌*◌, ◌^◌, ◌<◌, ◌≤◌, true, ◌||◌, leb, length, get_or};
 ghost use Rattle.snapshot.specs.Lists.{rows, any};
 ghost use Rattle.snapshot.specs.Words.{pay_of};
@@ -9,6 +10,7 @@ ghost use Rattle.record_rules.specs.Stands.{same_by};
 use snapshot::words::{field, payload, word};
 
 // Whether two records have the same owner, where it counts, and the same first fields.
+// A record is words of the snapshot and no struct, so there is no PartialEq to derive; and which fields count is a parameter.
 fn same_fields(words: &[u32], owner: bool, fields: usize, a: usize, b: usize) -> bool
     ensures { result ≡ same_by words.now owner fields a b }
 {
@@ -19,6 +21,7 @@ fn same_fields(words: &[u32], owner: bool, fields: usize, a: usize, b: usize) ->
 }
 
 // The payload of a word.
+// Of a word that was read by its index: `payload` takes a place, and reads 0 past the end, which would be a second test for each record.
 fn low(w: u32) -> u32
     ensures { result ≡ pay_of w }
 {

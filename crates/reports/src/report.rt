@@ -1,4 +1,5 @@
 //! Reports: made of a refusal or of what a search found, and written to words.
+//! A report is words for C in a slice that C lends, so it is written by hand: there is no heap, and a Display would make text.
 ghost use Rattle.std.specs.Prelude.{◌≡◌, map, ◌++◌, ◌+◌, ◌≤◌, length, take, drop};
 ghost use Rattle.snapshot.specs.Records.{Snapshot};
 ghost use Rattle.find_path.specs.declared.Query.{Query};
@@ -30,6 +31,7 @@ pub fn refused(number: usize) -> Report
     }
 }
 
+// `misleads` is a test's result, here and in `reported`.
 fn outcome(misleads: bool, found: bool) -> usize
     ensures { result ≡ outcome_by misleads found }
 {
@@ -71,6 +73,7 @@ impl ReportWords {
 }
 
 // A number in a word: its lowest 32 bits.
+// A cast alone asks for a number below 2^32, which a report need not have; C gets the lowest bits.
 fn low(x: usize) -> u32
     ensures { result ≡ low_of x }
 {

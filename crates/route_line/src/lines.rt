@@ -12,6 +12,7 @@ use find_path::Question;
 use snapshot::layout::Layout;
 
 /// Puts the line of a question on checked words with its route and its end at the front, and answers its length. The words stay checked.
+// As `line_on`, with `put_routed` and a longer buffer; its clause is stated of the line with the route.
 pub fn routed_line_on(
     words: &[u32],
     area: &mut [u32],

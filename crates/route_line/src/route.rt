@@ -1,4 +1,5 @@
 //! The route of a report, as text.
+//! As the line itself, it is put into bytes that C lends: the library has no heap for a String.
 ghost use Rattle.std.specs.Prelude.{[], ◌++◌, ◌+◌, ◌≤◌, ◌<◌, length, get_or, take};
 ghost use Rattle.snapshot.specs.Limits.{routed_limit};
 ghost use Rattle.snapshot.specs.Layouts.{snap_of};
@@ -53,14 +54,14 @@ fn put_step(out: &mut [u8], at: usize, step: usize) -> usize
     put_number(out, c, step / 8)
 }
 
-// Puts the first steps of a route, each after a blank.
-fn put_steps(out: &mut [u8], at: usize, route: &[usize], steps: usize) -> usize
-    requires { (at + 493 ≤ length out.old) × (steps ≤ 17) × (steps ≤ length route.now) }
-    ensures put { Put out.old at (steps_text (take steps route.now)) out.new result }
+// Puts the steps of a route, each after a blank.
+fn put_steps(out: &mut [u8], at: usize, route: &[usize]) -> usize
+    requires { (at + 493 ≤ length out.old) × (length route.now ≤ 17) }
+    ensures put { Put out.old at (steps_text route.now) out.new result }
     ensures upper_bound { result ≤ at + 493 }
 {
     let mut to = at;
-    for step in &route[..steps] {
+    for step in route {
         to = put_step(out, to, *step);
     }
     to
@@ -77,7 +78,7 @@ fn put_route(out: &mut [u8], at: usize, r: Report) -> usize
         return at;
     }
     let route = r.route;
-    put_steps(out, at, &route, r.steps)
+    put_steps(out, at, &route[..r.steps])
 }
 
 /// Puts the line of a report, as it is written in a module, with its route and its end at the front, and answers its length.

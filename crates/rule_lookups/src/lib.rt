@@ -30,6 +30,7 @@ pub enum Rule {
 }
 
 // Whether an entry stands for the item, or there is none.
+// True for no entry at all, so it is no equality: `Option == Option` would ask for an entry.
 fn same_here(words: &[u32], l: Layout, item: Item, e: Option<usize>) -> bool
     requires { word_count l < 2 ^ 32 }
     ensures { (A : List ℕ) (x : FindPathCtx) → result ≡ same_here (snap_of words.now A l) x item

@@ -18,6 +18,7 @@ use snapshot::layout::Layout;
 use snapshot::refusal::Refusal;
 use snapshot::words::word;
 
+// The entry's words are not packed as a record's: passing five fields to one test of both would be no plainer.
 fn in_range(entry: &[u32]) -> bool
     ensures { result ≡ scope_range (entry_of entry.now) }
 {

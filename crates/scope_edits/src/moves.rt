@@ -16,6 +16,7 @@ fn move_up(words: &mut [u32], at: usize, count: usize)
 }
 
 // Writes a record over the words at a place.
+// Into the words that C lends: no Vec, whose `insert` would do this.
 fn put_record(words: &mut [u32], at: usize, added: &[u32])
     requires { (at + scope_size ≤ length words.old) × (length added.now ≡ scope_size) }
     ensures { words.new ≡ take at words.old ++ (added.now ++ drop (at + scope_size) words.old) }

@@ -33,6 +33,7 @@ impl Index {
 }
 
 // The chains of the first `count` modules are empty.
+// The area is passed whole, since `Cleared` says that its other words stay.
 fn clear_heads(area: &mut [u32], count: usize, end: usize)
     requires { (length area.old ≡ area_limit) × (count ≤ module_limit) × (end < 2 ^ 32) }
     ensures { Cleared area.old end count area.new }

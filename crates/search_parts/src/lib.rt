@@ -27,6 +27,7 @@ pub struct Langs {
 }
 
 /// The origins for a crate that prefers no_std, or not.
+// `nostd`, and `std` of `straight_of`, are fields of the context, where the Rust has bools too.
 pub fn langs_for(nostd: bool) -> Langs
     ensures { origin_number result.first ∷ origin_number result.second ∷ origin_number result.third ∷ [] ≡ langs nostd }
 {

@@ -19,7 +19,7 @@ use Rattle.accept.specs.Valid.{Tree, Valid, ScopeFits}
 use Rattle.accept.proofs.Reading.{ranges_read}
 use Rattle.accept.proofs.Valid.{accepted_valid}
 use Rattle.tree_rules.specs.Modules.{crate_of, parent_of, block_of}
-use Rattle.tree_rules.specs.Privately.{of_root, block_step, module_around, privately}
+use Rattle.tree_rules.specs.Privately.{of_root, block_step, module_around}
 use Rattle.module_tree.proofs.Laws.{by_number, Falls}
 use Rattle.module_tree.proofs.Chains.{block_fits}
 use Rattle.module_tree.proofs.Reading.{length_modules}

@@ -13,6 +13,7 @@ use snapshot::ids::{ModuleId, Visibility};
 use snapshot::layout::Layout;
 
 /// The block's parent of a block map's root, none of any other module.
+// Privacy's own step: `read_back::outward` is that of reading names, defined elsewhere.
 pub fn block_step(words: &[u32], area: &[u32], l: Layout, m: ModuleId) -> Option<ModuleId>
     requires { Reads words.now area.now l × (m.0 < l.modules) }
     ensures { plus_one result ≡ block_step (snap_of words.now area.now l) m.0 }
@@ -24,6 +25,7 @@ pub fn block_step(words: &[u32], area: &[u32], l: Layout, m: ModuleId) -> Option
 }
 
 /// The module in which a recorded module stands: itself, or the one around the block whose map it is the root of.
+// The loop of `read_back::stands_for` to another definition; `nearest` looks for an entry on the way, and here the end is asked for.
 pub fn module_around(words: &[u32], area: &[u32], l: Layout, m: ModuleId) -> ModuleId
     requires { Reads words.now area.now l × (m.0 < l.modules) }
     ensures { (result.0 ≡ module_around (snap_of words.now area.now l) m.0) × (result.0 < l.modules) }
@@ -47,6 +49,7 @@ fn privately(words: &[u32], area: &[u32], l: Layout, viewer: ModuleId, target: M
 }
 
 /// Whether a visibility holds in the module.
+// By the Reference's privacy and not by the walk of `is_visible_from`: what they differ in is stated of two functions.
 pub fn holds(
     words: &[u32],
     area: &[u32],

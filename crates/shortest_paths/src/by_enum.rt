@@ -42,6 +42,7 @@ fn is_variant(
 }
 
 // A definition by its enum's first path and its own name.
+// `named` is passed on as it came: the clause is over it.
 fn variant_told(
     words: &[u32],
     area: &[u32],

@@ -18,6 +18,7 @@ use told_paths::ToldPath;
 use told_paths::paths::shorter;
 
 // A shortest of one kind, over the n rows of their run.
+// `named` says which of two runs stands in the area, as `Ready` and the functions below have it.
 fn shortest_of(
     words: &[u32],
     area: &[u32],

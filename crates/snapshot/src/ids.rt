@@ -93,6 +93,7 @@ pub enum DefinitionKind {
     Macro,
 }
 
+// Each enum has its own match: here a word becomes a variant, and a table of variants would need a test of its length beside it.
 impl DefinitionKind {
     /// The kind with a number.
     pub fn of(number: usize) -> Option<DefinitionKind>
@@ -166,6 +167,7 @@ pub enum PathKind {
     Absolute,
 }
 
+// `DefinitionKind::of` has as many arms over other variants; a macro of both is not allowed, and a trait would keep both matches.
 impl PathKind {
     /// The path kind with a number.
     pub fn of(number: usize) -> Option<PathKind>

@@ -98,6 +98,7 @@ const ARGUMENTS: [usize; 14] = [
     Size::MEMBER - 1,
 ];
 
+// `get` with a default would answer through an Option what this test says in a line.
 fn fixed(kind: usize) -> usize
     ensures { result ≡ get_or argument_table kind 0 }
 {

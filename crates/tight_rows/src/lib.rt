@@ -34,6 +34,7 @@ impl Rows {
 }
 
 /// Nothing is known of the first `count` modules.
+// One row a module that there is, in an area with other tables on both sides: the count is not the slice's length.
 pub fn clear_rows(area: &mut [u32], count: usize)
     requires { (length area.old ≡ area_limit) × (count ≤ module_limit) }
     ensures { Cleared area.old count area.new }
@@ -92,6 +93,7 @@ pub fn row_of(c: Choice) -> usize
 }
 
 // The choice with that flag for `prelude`.
+// The value of the field `has_prelude_segment`, so a bool as this is.
 fn flagged(c: Choice, flag: bool) -> Choice
     ensures { result ≡ flagged_of c flag }
 {

@@ -76,14 +76,10 @@ kind_super zero a b = absurd (a refl)
 kind_super (suc zero) a b = absurd (b refl)
 kind_super (suc (suc n)) a b = refl
 
-pub supers_crate : (n : ℕ) → n ≡ 0 → 0 ≡ keyword_supers (keyword_from n)
+pub supers_of_number : (n : ℕ) → n - 1 ≡ keyword_supers (keyword_from n)
 unfolding keyword_supers keyword_from
-supers_crate n e = rw e
-
-pub supers_other : (n : ℕ) → (n ≡ 0 → ⊥) → n - 1 ≡ keyword_supers (keyword_from n)
-unfolding keyword_supers keyword_from
-supers_other zero a = absurd (a refl)
-supers_other (suc n) a = omega arith
+supers_of_number zero = refl
+supers_of_number (suc n) = omega arith
 
 -- Counting: so many names are counted, those by the link k are left.
 pub record Counted (A : List ℕ) (n link count k : ℕ) : Type 0 where

@@ -1,4 +1,5 @@
 //! Paths read out of the rows, one more name, and the shorter of two.
+//! The area is longer than the n rows of the run, and the clauses bound each link by n: so both are passed.
 ghost use Rattle.std.specs.Prelude.{◌≡◌, ℕ, ◌+◌, ◌^◌, ◌≤◌, ◌<◌};
 ghost use Rattle.std.specs.Prelude.{Option};
 ghost use Rattle.snapshot.specs.Limits.{module_limit};
@@ -67,10 +68,7 @@ fn keyword_kind(n: usize) -> usize
 fn keyword_supers(n: usize) -> usize
     ensures { result ≡ keyword_supers (keyword_from n) }
 {
-    if n == 0 {
-        return 0;
-    }
-    n - 1
+    n.saturating_sub(1)
 }
 
 // How many names a path has whose last step has that link, after n rows.

@@ -66,9 +66,9 @@ fn read_alone(
     ensures { Answers (reads (snap_of words.now area.now l) from.0 ns (plain name.0)) result }
 {
     match read_plain(words, area, l, from, ns, name) {
-        Reading::Scope(h) => by_entry(words, l, h),
-        Reading::Extern(h) => by_extern(words, h),
-        Reading::Nothing => nothing(),
+        Some(Reading::Scope(h)) => by_entry(words, l, h),
+        Some(Reading::Extern(h)) => by_extern(words, h),
+        None => nothing(),
     }
 }
 

@@ -15,6 +15,7 @@ use told_paths::ToldPath;
 use told_paths::paths::NameCount;
 
 // Where the last of k names is looked up, of so many.
+// A namespace for the last name and types before it; `wording::chosen` has the shape alone, over texts.
 fn looked_in(ns: usize, k: usize, count: usize) -> usize
     ensures { result ≡ ns_of_first ns count k }
 {

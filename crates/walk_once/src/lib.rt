@@ -58,6 +58,7 @@ fn is_on(area: &[u32], s: Stack, item: Item) -> bool
 }
 
 // Copies the first n modules of the walk.
+// `copy_within` alone; the function stays for its clause, in terms of runs.
 fn copy_walk(area: &mut [u32], to: usize, n: usize)
     requires { (walk_end ≤ to) × (to + module_limit ≤ length area.old) × (n ≤ module_limit) }
     ensures { Copied area.old to n area.new }

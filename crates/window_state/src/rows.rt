@@ -25,6 +25,7 @@ pub struct Row {
 }
 
 /// Eight windows, and the one from which the next turn counts, modulo 8.
+// Eight rows in 65 words that C keeps: always eight, so an array.
 #[derive(Clone, Copy)]
 pub struct Windows {
     pub next: u32,

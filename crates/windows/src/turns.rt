@@ -9,6 +9,7 @@ use window_state::rows::{WindowCount, Windows};
 /// A turn: idle, or the window that was served and the report of its question.
 #[derive(Clone, Copy)]
 pub struct Turn {
+    // A flag, no Option: a rule of the project needs it, for the theorem `idle_exactly` and docs/DECISIONS.md name it.
     pub idle: bool,
     pub window: usize,
     pub report: Report,

@@ -1,4 +1,5 @@
 //! The text of a refusal, and of how many records of each kind there are.
+//! The buffer is lent: `wording` has no heap, and its callers know from the clauses that 512 bytes serve.
 ghost use Rattle.std.specs.Prelude.{◌≡◌, ◌++◌, ◌+◌, ◌≤◌, length};
 ghost use Rattle.snapshot.specs.Refusals.{refusal_number};
 ghost use Rattle.printing.specs.Output.{Put, bytes_of, decimal};

@@ -22,7 +22,7 @@ use Rattle.charged_search.specs.Parts.{out_of, imports, dependencies, sysroot}
 use Rattle.charged_search.proofs.Parts.{at_home, module_ns, module_none, module_found, module_charged, best_empty, best_charged, go_here}
 use Rattle.charged_search.proofs.Parts.{go_sysroot, go_dependencies, lang_stable, lang_none, lang_some, rest_stable, import_hidden}
 use Rattle.charged_search.proofs.Holding.{offered, charge_sum, module_small, held_nothing, home_below}
-use Rattle.charged_search.proofs.Runs.{begun_later, lang_passed, deps_passed, lang_run, rest_run, import_run, running_done, left_none}
+use Rattle.charged_search.proofs.Runs.{begun_later, lang_passed, deps_passed, lang_run, rest_run, import_run, running_done}
 use Rattle.charged_search.proofs.Runs.{imports_end, imports_next, deps_end, deps_next}
 use Rattle.charged_search.proofs.+charged.Goals as goal
 
@@ -110,8 +110,8 @@ find_import-returns t c =
     c.length_left-n.ensures
     c.import_container.ensures f.ensures c.offer_import-choice.ensures
 
-pub find_in_dep-loop-k-init : goal.find_in_dep-loop-k-init
-find_in_dep-loop-k-init t c =
+pub find_in_dep-loop-next-init : goal.find_in_dep-loop-next-init
+find_in_dep-loop-next-init t c =
     let a = c.args in
     record {
       same = ap (imports (snap_of a.words.now a.area.now a.l) a.x a.left (out_of a.o))
@@ -124,17 +124,10 @@ find_in_dep-loop-k-init t c =
 pub find_in_dep-import_info_for-requires : goal.find_in_dep-import_info_for-requires
 find_in_dep-import_info_for-requires t c = few_words _ _ _ c.requires.0.ready.reads
 
-pub find_in_dep-returns-in_default : goal.find_in_dep-returns-in_default
-find_in_dep-returns-in_default t c =
-    let a = c.args in
-    let g = c.loop-k in
-    running_done g.invariant (imports_end a.words.now a.area.now g.area a.l a.x a.left c.requires.0.ready
-    c.requires.0.some g.best _ (next_none (c.import_info_for.ensures a.area.now) c.in_default.is).none)
-
 pub find_in_dep-find_import-best-requires : goal.find_in_dep-find_import-best-requires
 find_in_dep-find_import-best-requires t c =
     let a = c.args in
-    let g = c.loop-k in
+    let g = c.loop-next in
     let m = next_record (c.import_info_for.ensures a.area.now) c.in-Some.is in
     let q = import_meets a.words.now a.area.now a.l c.requires.0.ready.reads m in
     (omega (arith, c.decreases), (begun_later c.requires.0 g.invariant.tables g.invariant.long, q.container, q, g.invariant.held))
@@ -146,31 +139,31 @@ find_in_dep-overflow_add-k t c =
     c.in-Some.is in
     record { fits = omega (arith, m.below, few_words _ _ _ c.requires.0.ready.reads) }
 
-pub find_in_dep-loop-k-smaller : goal.find_in_dep-loop-k-smaller
-find_in_dep-loop-k-smaller t c =
+pub find_in_dep-loop-next-smaller : goal.find_in_dep-loop-next-smaller
+find_in_dep-loop-next-smaller t c =
     let a = c.args in
     let m = next_record (c.import_info_for.ensures a.area.now)
     c.in-Some.is in
     omega (arith, m.from, m.below)
 
-pub find_in_dep-loop-k-preserved : goal.find_in_dep-loop-k-preserved
-find_in_dep-loop-k-preserved t c =
+pub find_in_dep-loop-next-preserved : goal.find_in_dep-loop-next-preserved
+find_in_dep-loop-next-preserved t c =
     let a = c.args in
     let m = next_record (c.import_info_for.ensures a.area.now)
     c.in-Some.is in
-    let g = c.loop-k in
+    let g = c.loop-next in
     imports_next a.words.now a.area.now g.area a.l a.x a.left c.requires.0.ready c.requires.0.some
     g.invariant m c.find_import-best.ensures c.find_import-best.auto.area
 
 pub find_in_dep-returns : goal.find_in_dep-returns
 find_in_dep-returns t c =
     let a = c.args in
-    let g = c.loop-k in
+    let g = c.loop-next in
     running_done g.invariant (imports_end a.words.now a.area.now g.area a.l a.x a.left c.requires.0.ready
-    c.requires.0.some g.best _ (left_none _ _ _ _ c.loop-k-test.false))
+    c.requires.0.some g.best _ (next_none (c.import_info_for.ensures a.area.now) c.in_default.is).none)
 
-pub find_in_deps-loop-k-init : goal.find_in_deps-loop-k-init
-find_in_deps-loop-k-init t c =
+pub find_in_deps-loop-next-init : goal.find_in_deps-loop-next-init
+find_in_deps-loop-next-init t c =
     let a = c.args in
     record {
       same = ap (dependencies (snap_of a.words.now a.area.now a.l) a.x a.left a.item (out_of a.o))
@@ -184,17 +177,10 @@ find_in_deps-loop-k-init t c =
 pub find_in_deps-next_dependency-requires : goal.find_in_deps-next_dependency-requires
 find_in_deps-next_dependency-requires t c = few_words _ _ _ c.requires.0.ready.reads
 
-pub find_in_deps-returns-in_default : goal.find_in_deps-returns-in_default
-find_in_deps-returns-in_default t c =
-    let a = c.args in
-    let g = c.loop-k in
-    running_done g.invariant (deps_end a.words.now a.area.now g.area a.l a.x a.left c.requires.0.ready
-    c.requires.0.some a.item g.best _ (next_none c.next_dependency.ensures c.in_default.is).none)
-
 pub find_in_deps-find_in_dep-best-requires : goal.find_in_deps-find_in_dep-best-requires
 find_in_deps-find_in_dep-best-requires t c =
     let a = c.args in
-    let g = c.loop-k in
+    let g = c.loop-next in
     (omega (arith, c.decreases), (begun_later c.requires.0 g.invariant.tables g.invariant.long, g.invariant.held))
 
 pub find_in_deps-overflow_add-k : goal.find_in_deps-overflow_add-k
@@ -204,28 +190,28 @@ find_in_deps-overflow_add-k t c =
     c.in-Some.is in
     record { fits = omega (arith, m.below, few_words _ _ _ c.requires.0.ready.reads) }
 
-pub find_in_deps-loop-k-smaller : goal.find_in_deps-loop-k-smaller
-find_in_deps-loop-k-smaller t c =
+pub find_in_deps-loop-next-smaller : goal.find_in_deps-loop-next-smaller
+find_in_deps-loop-next-smaller t c =
     let a = c.args in
     let m = next_record c.next_dependency.ensures
     c.in-Some.is in
     omega (arith, m.from, m.below)
 
-pub find_in_deps-loop-k-preserved : goal.find_in_deps-loop-k-preserved
-find_in_deps-loop-k-preserved t c =
+pub find_in_deps-loop-next-preserved : goal.find_in_deps-loop-next-preserved
+find_in_deps-loop-next-preserved t c =
     let a = c.args in
     let m = next_record c.next_dependency.ensures
     c.in-Some.is in
-    let g = c.loop-k in
+    let g = c.loop-next in
     deps_next a.words.now a.area.now g.area a.l a.x a.left c.requires.0.ready c.requires.0.some a.item
     g.invariant m c.dependency_crate.ensures c.find_in_dep-best.ensures c.find_in_dep-best.auto.area
 
 pub find_in_deps-returns : goal.find_in_deps-returns
 find_in_deps-returns t c =
     let a = c.args in
-    let g = c.loop-k in
+    let g = c.loop-next in
     running_done g.invariant (deps_end a.words.now a.area.now g.area a.l a.x a.left c.requires.0.ready
-    c.requires.0.some a.item g.best _ (left_none _ _ _ _ c.loop-k-test.false))
+    c.requires.0.some a.item g.best _ (next_none c.next_dependency.ensures c.in_default.is).none)
 
 pub find_in_lang-returns-then-is_stable : goal.find_in_lang-returns-then-is_stable
 find_in_lang-returns-then-is_stable t c =

@@ -37,23 +37,23 @@ decreases-find_path_for_module l = 8 * l.left + 8
 abbrev pub decreases-search_charged : goal.decreases-search_charged
 decreases-search_charged l = 8 * l.left + 6
 
-abbrev pub invariant-find_in_dep-loop-k : goal.invariant-find_in_dep-loop-k
-invariant-find_in_dep-loop-k l =
+abbrev pub invariant-find_in_dep-loop-next : goal.invariant-find_in_dep-loop-next
+invariant-find_in_dep-loop-next l =
     Running l.initial.area l.area l.left l.best
     (imports (snap_of l.words l.initial.area l.l) l.x l.left (out_of l.best) (left_of (is_import (snap_of l.words l.initial.area l.l) l.c.0 l.item)
     (λ i. import_at l.words (import_base l.l + import_size * i)) l.l.imports l.k))
     (imports (snap_of l.words l.initial.area l.l) l.x l.left (out_of l.initial.best) (import_info_for (snap_of l.words l.initial.area l.l) l.c.0 l.item))
 
-abbrev pub decreases-find_in_dep-loop-k : goal.decreases-find_in_dep-loop-k
-decreases-find_in_dep-loop-k l = l.l.imports - l.k
+abbrev pub decreases-find_in_dep-loop-next : goal.decreases-find_in_dep-loop-next
+decreases-find_in_dep-loop-next l = l.l.imports - l.k
 
-abbrev pub invariant-find_in_deps-loop-k : goal.invariant-find_in_deps-loop-k
-invariant-find_in_deps-loop-k l =
+abbrev pub invariant-find_in_deps-loop-next : goal.invariant-find_in_deps-loop-next
+invariant-find_in_deps-loop-next l =
     Running l.initial.area l.area l.left l.best
     (dependencies (snap_of l.words l.initial.area l.l) l.x l.left l.item (out_of l.best) (left_of (among l.x.from_crate.0 l.which)
     (λ i. dependency_at l.words (dependency_base l.l + dependency_size * i)) l.l.dependencies l.k))
     (dependencies (snap_of l.words l.initial.area l.l) l.x l.left l.item (out_of l.initial.best) (select (among l.x.from_crate.0 l.which)
     (snap_of l.words l.initial.area l.l).dependencies))
 
-abbrev pub decreases-find_in_deps-loop-k : goal.decreases-find_in_deps-loop-k
-decreases-find_in_deps-loop-k l = l.l.dependencies - l.k
+abbrev pub decreases-find_in_deps-loop-next : goal.decreases-find_in_deps-loop-next
+decreases-find_in_deps-loop-next l = l.l.dependencies - l.k

@@ -2,7 +2,6 @@ use mathlib.Core.Path.{ap, ap₂, ◌∙◌}
 use mathlib.Core.Bool.{◌&&◌}
 use lib.Dec.{eqb}
 use Rattle.snapshot.specs.Layouts.{snap_of}
-use Rattle.snapshot.specs.Origins.{origin_number}
 use Rattle.hir_def.specs.Items.{crate_data}
 use Rattle.crate_graph.proofs.is_lang_sysroot.Goals as goal
 

@@ -1,4 +1,3 @@
-use Prim.Native.Nat.{◌-◌}
 use Rattle.distances.proofs.Marking.{Marking}
 use Rattle.distances.proofs.mark_scope.Given as goal
 

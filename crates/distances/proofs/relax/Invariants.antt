@@ -1,4 +1,3 @@
-use Prim.Native.Nat.{◌-◌}
 use Rattle.distances.proofs.Relaxing.{Relaxing}
 use Rattle.distances.proofs.relax.Given as goal
 

@@ -1,11 +1,7 @@
 use mathlib.Core.Path.{refl}
-use native.Mathlib.Omega.{arith}
 use Rattle.snapshot.specs.Lists.{rows}
 use Rattle.keywords.proofs.Laws.{edition_known}
 use Rattle.keywords.proofs.is_keyword.Goals as goal
-
-pub known-requires : goal.known-requires
-known-requires c = let b = c.keywords_in-n.ensures.1 in (omega arith, b)
 
 pub returns : goal.returns
 unfolding rows

@@ -11,7 +11,6 @@ use Rattle.local_search.proofs.Searches.{module_small, search_none, search_rules
 use Rattle.local_search.proofs.Searches.{location_shorter, location_call, location_reads, location_few, location_text, location_steps}
 use Rattle.local_search.proofs.Searches.{location_some, entry_at, tight_none, made_asked, made_done, row_two, row_entered, owner_known}
 use Rattle.local_search.proofs.Searches.{owner_call, owner_reads, owner_found, owner_few, owner_steps, owner_text, owner_done}
-use Prim.Native.Nat.{◌-◌}
 use Rattle.local_search.proofs.+find_path_for_module_local_local_at_location_tight_at.Goals as goal
 
 pub find_path_for_module_local-returns-then-left-eq0 : goal.find_path_for_module_local-returns-then-left-eq0

@@ -1,6 +1,6 @@
 use Rattle.snapshot.specs.Layouts.{snap_of}
 use Rattle.local_search.proofs.Nests.{Nesting}
-use Prim.Native.Nat.{◌+◌, ◌-◌, ◌*◌}
+use Prim.Native.Nat.{◌+◌, ◌*◌}
 use Rattle.local_search.proofs.+find_path_for_module_local_local_at_location_tight_at.Given as goal
 
 abbrev pub decreases-find_path_for_module_local : goal.decreases-find_path_for_module_local

@@ -2,7 +2,6 @@ use Prim.Native.Nat.{◌+◌, ◌*◌}
 use mathlib.Core.Path.{ap}
 use native.Mathlib.Omega.{arith}
 use Rattle.snapshot.specs.Sizes.{scope_size}
-use Rattle.hir_def.specs.ItemScope.{is_module_entry}
 use Rattle.hir_def.specs.Entries.{NextOf}
 use Rattle.hir_def.proofs.Lookups.{next_start, next_hit, next_miss, next_end}
 use Rattle.scope_index.proofs.Chaining.{first_next, came_to}

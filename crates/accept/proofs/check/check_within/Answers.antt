@@ -1,6 +1,5 @@
 use mathlib.Core.Path.{sym, ◌∙◌}
 use native.Mathlib.Omega.{arith}
-use borrow.Author.Tests.{not-true, not-false}
 use Rattle.std.proofs.lemmas.Result.{err_from_is_err_and}
 use Rattle.accept.proofs.Ending.{too_long, ended_judged, not_filled, not_owned, map_small, accepted}
 use Rattle.accept.proofs.check.check_within.Goals as goal
@@ -13,24 +12,11 @@ returns-in_err-l c =
     let p = err_from_is_err_and c.from_residual.result c.from_residual.ensures.1 in
     rw (p.1, p.2) (ended_judged c.args.words.now c.read_records.new.area _ c.in_err-l.ensures)
 
-pub maps_filled-requires : goal.maps_filled-requires
-maps_filled-requires c =
-    let e = c.in_ok-l.ensures in (
-      let p = e.2.place in let w = c.requires in let h = c.if-words-gt-SNAPSHOT.false
-          in omega arith,
-      e.2.limited.modules,
-    )
-
 pub returns-then-not-maps_filled : goal.returns-then-not-maps_filled
 returns-then-not-maps_filled c =
     let e = c.in_ok-l.ensures in
     not_filled c.args.words.now c.read_records.new.area e.1 c.in_ok-l.l e.0 e.2 e.3 c.maps_filled.ensures
     c.if-not-maps_filled.true
-
-pub crates_own-requires : goal.crates_own-requires
-crates_own-requires c =
-    let e = c.in_ok-l.ensures in
-    e.2.limited.crates
 
 pub returns-then-not-crates_own : goal.returns-then-not-crates_own
 returns-then-not-crates_own c =

@@ -6,9 +6,6 @@ use Rattle.accept.proofs.Turns.{arguments_few}
 use Rattle.accept.proofs.Folds.{going_start, going_here, going_stop, going_on, going_end, before_ok, before_err}
 use Rattle.accept.proofs.check.read_records.Goals as goal
 
-pub clear-requires : goal.clear-requires
-clear-requires c = (let h = c.requires.1 in omega arith)
-
 pub loop-at-init : goal.loop-at-init
 loop-at-init c = (
   going_start _ _ c.requires.0
@@ -32,21 +29,11 @@ returns-in_err-l c =
     c.loop-at-test.true c.turn.ensures m.0 m.1 in
     rw (p.1, p.2, k) q
 
-pub overflow_add-at : goal.overflow_add-at
-overflow_add-at c =
-    let h = c.loop-at-test.true in
-    omega arith
-
 pub overflow_add-at-in-loop-at : goal.overflow_add-at-in-loop-at
 overflow_add-at-in-loop-at c =
     let h = c.loop-at-test.true in
     let e = arguments_few c.args.words.now c.loop-at.at _
     c.arguments.ensures in
-    omega arith
-
-pub loop-at-smaller : goal.loop-at-smaller
-loop-at-smaller c =
-    let h = c.loop-at-test.true in
     omega arith
 
 pub loop-at-preserved : goal.loop-at-preserved

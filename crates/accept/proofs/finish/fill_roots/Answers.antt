@@ -5,19 +5,6 @@ use Rattle.accept.proofs.finish.fill_roots.Goals as goal
 pub loop-m-init : goal.loop-m-init
 loop-m-init c = filled_none _ _
 
-pub module_map-map-requires : goal.module_map-map-requires
-module_map-map-requires c =
-    let u = c.loop-m.invariant.upto in
-    let v = c.requires.area_limit_in_bounds.1 in
-    omega arith
-
-pub overflow_cast-area : goal.overflow_cast-area
-overflow_cast-area c =
-    let l = c.loop-m in
-    let u = l.invariant.upto in
-    let v = c.requires.area_limit_in_bounds.1 in
-    omega arith
-
 pub overflow_add-area : goal.overflow_add-area
 overflow_add-area c =
     let l = c.loop-m in

@@ -1,6 +1,5 @@
 use mathlib.Core.Path.{sym, ◌∙◌}
 use native.Mathlib.Omega.{arith}
-use borrow.Author.Tests.{not-true, not-false}
 use Rattle.snapshot.specs.Lists.{all}
 use Rattle.snapshot.proofs.Laws.{rows_whole, all_stop, all_go, all_end}
 use Rattle.accept.proofs.finish.maps_filled.Goals as goal

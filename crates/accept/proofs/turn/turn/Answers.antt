@@ -1,6 +1,5 @@
-use mathlib.Core.Path.{refl, sym, ap, ◌∙◌}
+use mathlib.Core.Path.{refl, sym, ◌∙◌}
 use native.Mathlib.Omega.{arith}
-use borrow.Author.Tests.{not-true, not-false}
 use Rattle.snapshot.specs.Layouts.{snap_with}
 use Rattle.snapshot.proofs.KindLaws.{kind_known}
 use Rattle.accept.proofs.Turns.{turn_kind, turn_arguments, turn_on, follows_none, stands_up, arguments_few, ready_for, answers_at}

@@ -1,4 +1,5 @@
 use mathlib.Core.Path.{sym, ap, ◌∙◌}
+use Rattle.std.specs.Prelude.{Option, Some}
 use Rattle.snapshot.specs.Ids.{plus_one}
 use Rattle.snapshot.specs.Layouts.{snap_of}
 use Rattle.any_path.specs.Plain.{record_read, module_in, module_no}
@@ -6,13 +7,22 @@ use Rattle.any_path.specs.declared.plain.Reading.{Reading}
 use Rattle.any_path.proofs.Plains.{mod_no}
 use Rattle.any_path.proofs.plain.module_read.Goals as goal
 
+pub returns-in_err-h : goal.returns-in_err-h
+unfolding plus_one module_in record_read
+returns-in_err-h c =
+    λ A.
+    let W = c.args.words.now in
+    let L = c.args.l in
+    ap plus_one c.from_residual.ensures ∙ sym (ap (λ (x : Option Reading). module_in (record_read (snap_of W A L) W x)) c.in_err-h.was)
+
 pub returns-in-Scope : goal.returns-in-Scope
 unfolding module_in record_read
 returns-in-Scope c =
     λ A.
     let W = c.args.words.now in
     let L = c.args.l in
-    c.entry_module.ensures A ∙ sym (ap (λ (x : Reading). module_in (record_read (snap_of W A L) W x)) c.in-Scope.is)
+    c.entry_module.ensures A
+    ∙ sym (ap (λ (x : Option Reading). module_in (record_read (snap_of W A L) W x)) (c.in_ok-h.was ∙ ap Some c.in-Scope.is))
 
 pub returns-in-Extern : goal.returns-in-Extern
 unfolding module_in module_no record_read
@@ -20,12 +30,5 @@ returns-in-Extern c =
     λ A.
     let W = c.args.words.now in
     let L = c.args.l in
-    mod_no _ c.extern_target.ensures ∙ sym (ap (λ (x : Reading). module_in (record_read (snap_of W A L) W x)) c.in-Extern.is)
-
-pub returns-in-Nothing : goal.returns-in-Nothing
-unfolding plus_one module_in record_read
-returns-in-Nothing c =
-    λ A.
-    let W = c.args.words.now in
-    let L = c.args.l in
-    sym (ap (λ (x : Reading). module_in (record_read (snap_of W A L) W x)) c.in-Nothing.is)
+    mod_no _ c.extern_target.ensures
+    ∙ sym (ap (λ (x : Option Reading). module_in (record_read (snap_of W A L) W x)) (c.in_ok-h.was ∙ ap Some c.in-Extern.is))

@@ -31,15 +31,16 @@ returns-in-Some-outer c =
     c.in_default.is) _
     (sym c.externs_named-outer.ensures ∙ ap (entry_of extern_at W) c.in-Some-outer.is)
 
-pub returns-in_default-prelude_named : goal.returns-in_default-prelude_named
+pub returns-in_err-h : goal.returns-in_err-h
 unfolding record_read
-returns-in_default-prelude_named c =
+returns-in_err-h c =
     let W = c.args.words.now in
     let from = c.args.from.0 in
     let A = c.args.area.now in
     let L = c.args.l in
     let S = snap_of W A L in
-    ap (option_map (as_named S)) (sym (ap (entry_of scope_at W) c.in_default-prelude_named.is) ∙ c.prelude_named.ensures)
+    ap (record_read S W) c.from_residual.ensures
+    ∙ ap (option_map (as_named S)) (sym (ap (entry_of scope_at W) c.in_err-h.was) ∙ c.prelude_named.ensures)
     ∙ plain_prelude S from c.args.ns c.args.name.0 (sym c.scopes_named-near.ensures ∙ ap (entry_of scope_at W) c.in_default.is)
     (sym c.externs_named-outer.ensures ∙ ap (entry_of extern_at W) c.in_default-outer.is)
 
@@ -51,6 +52,6 @@ returns c =
     let A = c.args.area.now in
     let L = c.args.l in
     let S = snap_of W A L in
-    ap (option_map (as_named S)) (sym (ap (entry_of scope_at W) c.in-Some-prelude_named.is) ∙ c.prelude_named.ensures)
+    ap (option_map (as_named S)) (sym (ap (entry_of scope_at W) c.in_ok-h.was) ∙ c.prelude_named.ensures)
     ∙ plain_prelude S from c.args.ns c.args.name.0 (sym c.scopes_named-near.ensures ∙ ap (entry_of scope_at W) c.in_default.is)
     (sym c.externs_named-outer.ensures ∙ ap (entry_of extern_at W) c.in_default-outer.is)

@@ -1,4 +1,3 @@
-use Prim.Native.Nat.{◌+◌}
 use mathlib.Core.Path.{refl, ◌∙◌}
 use native.Mathlib.Omega.{arith}
 use Rattle.snapshot.proofs.Laws.{rows_whole, after_head}

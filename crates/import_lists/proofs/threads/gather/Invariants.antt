@@ -1,4 +1,3 @@
-use Prim.Native.Nat.{◌-◌}
 use Rattle.import_lists.proofs.Threading.{Gathering}
 use Rattle.import_lists.proofs.threads.gather.Given as goal
 

@@ -1,4 +1,4 @@
-use Prim.Native.Nat.{◌-◌, ◌≤◌}
+use Prim.Native.Nat.{◌≤◌}
 use Rattle.import_lists.specs.Threads.{entry_of, Threads}
 use Rattle.import_lists.proofs.threads.thread_entries.Given as goal
 

@@ -1,4 +1,4 @@
-use Prim.Native.Nat.{◌-◌, ◌≤◌}
+use Prim.Native.Nat.{◌≤◌}
 use Rattle.import_lists.proofs.Writing.{Going, imports_from}
 use Rattle.import_lists.proofs.write.put_modules.Given as goal
 

@@ -1,20 +1,8 @@
 use mathlib.Core.Path.{refl}
-use native.Mathlib.Omega.{arith}
 use Rattle.std.proofs.lemmas.Result.{err_from_is_err_and}
 use Rattle.snapshot.proofs.Laws.{refusal_some}
 use Rattle.records.proofs.Steps.{import_no, import_on}
-use Prim.Native.Nat.{◌+◌}
 use Rattle.item_records.proofs.imports.step.Goals as goal
-
-pub ns_placed-placed-requires : goal.ns_placed-placed-requires
-ns_placed-placed-requires c = (
-  omega (arith, c.requires.place, c.requires.fits, c.requires.short),
-  omega (
-    arith,
-    c.import_definition.ensures,
-    c.type_inv.words (c.args.at + 2),
-  ),
-)
 
 pub returns-in_err-judge : goal.returns-in_err-judge
 returns-in_err-judge c ms st =

@@ -1,13 +1,8 @@
 use mathlib.Core.Path.{refl}
-use native.Mathlib.Omega.{arith}
 use Rattle.std.proofs.lemmas.Result.{err_from_is_err_and}
 use Rattle.snapshot.proofs.Laws.{refusal_some}
 use Rattle.records.proofs.Steps.{member_no, member_on}
 use Rattle.item_records.proofs.members.step.Goals as goal
-
-pub placed-requires : goal.placed-requires
-placed-requires c =
-    omega (arith, c.requires.place, c.requires.fits, c.requires.short)
 
 pub returns-in_err-judge : goal.returns-in_err-judge
 returns-in_err-judge c ms st =

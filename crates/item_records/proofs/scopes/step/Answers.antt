@@ -1,5 +1,4 @@
 use mathlib.Core.Path.{refl}
-use Prim.Native.Nat.{◌+◌}
 use native.Mathlib.Omega.{arith}
 use Rattle.std.proofs.lemmas.Result.{err_from_is_err_and}
 use Rattle.snapshot.proofs.Laws.{refusal_some}
@@ -12,16 +11,6 @@ repeated_with-old-requires c = let e = c.scope_base.ensures in
     let p = c.requires.place in
     let f = c.requires.fits in
     let q = c.requires.short in record { chained = scope_chain c.args.words.now c.args.area.now c.args.l c.requires.index e; key_value = (c.record_key-key.ensures, omega arith, omega arith, omega arith, omega arith); count_in_bounds = (omega arith, f, omega arith, omega arith) }
-
-pub ns_placed-placed-requires : goal.ns_placed-placed-requires
-ns_placed-placed-requires c = (
-  omega (arith, c.requires.place, c.requires.fits, c.requires.short),
-  omega (
-    arith,
-    c.scope_definition.ensures,
-    c.type_inv.words (c.args.at + 3),
-  ),
-)
 
 pub returns-in_err-judge : goal.returns-in_err-judge
 returns-in_err-judge c ms st =

@@ -1,4 +1,3 @@
-use Prim.Native.Nat.{◌-◌}
 use Rattle.check_rules.specs.Tests.{no_definition}
 use Rattle.join_words.specs.Joined.{same_builtin}
 use Rattle.join_numbers.specs.Parts.{part_of}

@@ -1,4 +1,3 @@
-use Prim.Native.Nat.{◌-◌}
 use Rattle.check_rules.specs.Tests.{no_name, same_name}
 use Rattle.join_numbers.specs.Parts.{part_of}
 use Rattle.join_numbers.specs.Numbered.{name_table}

@@ -1,6 +1,6 @@
 use native.Mathlib.Omega.{arith}
-use mathlib.Core.Path.{ap, sym, ◌∙◌}
-use Rattle.join_records.specs.Moves.{numbers_of, field_to}
+use mathlib.Core.Path.{ap, ◌∙◌}
+use Rattle.join_records.specs.Moves.{numbers_of}
 use Rattle.join_records.specs.Roles.{role_number}
 use Rattle.join_records.proofs.Laws.{under, field_crate, field_map, field_module, field_parent, field_name, field_definition, field_first}
 use Rattle.join_records.proofs.Laws.{field_second, field_seen, field_nothing}

@@ -6,9 +6,6 @@ use lib.ListN.{get_or}
 use Rattle.join_records.proofs.Laws.{counted, stored_part, space_small, space_room}
 use Rattle.join_records.proofs.write.copy.Goals as goal
 
-pub overflow_sub-n : goal.overflow_sub-n
-overflow_sub-n c = let h = c.requires.0 in omega arith
-
 pub overflow_add-result : goal.overflow_add-result
 overflow_add-result c = let h = space_small (λ j. get_or c.args.words.now (c.args.from + j) 0)
     (c.args.end - c.args.from) c.requires.2 in omega arith

@@ -12,28 +12,12 @@ pub put_kept-t-requires : goal.put_kept-t-requires
 put_kept-t-requires c =
     walking_space c.loop-at.invariant c.loop-at-test.true c.requires.1
 
-pub overflow_add-at : goal.overflow_add-at
-overflow_add-at c =
-    let e = c.requires.0 in
-    let h = c.loop-at-test.true in
-    omega arith
-
 pub overflow_add-at-in-loop-at : goal.overflow_add-at-in-loop-at
 overflow_add-at-in-loop-at c =
     let e = c.requires.0 in
     let h = c.loop-at-test.true in
     let k = arguments_few c.args.words.now c.loop-at.at _ c.arguments.ensures in
     omega arith
-
-pub overflow_add-n : goal.overflow_add-n
-overflow_add-n c =
-    let e = c.requires.0 in
-    let h = c.loop-at-test.true in
-    let k = c.loop-at.invariant.low in
-    omega arith
-
-pub loop-at-smaller : goal.loop-at-smaller
-loop-at-smaller c = omega (arith, c.loop-at-test.true)
 
 pub loop-at-preserved : goal.loop-at-preserved
 loop-at-preserved c =

@@ -13,7 +13,7 @@ slice_bounds-put_path-end c =
     search (rules, c.well_formed.1.1.1.1.1.0)
 
 pub put_path-requires : goal.put_path-requires
-put_path-requires c = let h : 16 ≡ length c.args.r.names = slice_bounds-put_path-end c in record { reads = (c.requires.0, omega (arith, c.requires.1, c.put-a.ensures.next, c.put-a.auto.out)); count_bound = (c.requires.2, omega (arith, c.requires.2, h)) }
+put_path-requires c = record { reads = (c.requires.0, omega (arith, c.requires.1, c.put-a.ensures.next, c.put-a.auto.out)); count_bound = omega (arith, c.requires.2, slice_bounds-put_path-end c) }
 
 pub returns-then-r : goal.returns-then-r
 unfolding path_text
@@ -41,7 +41,7 @@ slice_bounds-put_path-end-then-r-3 c =
     )
 
 pub put_path-requires-then-r-3 : goal.put_path-requires-then-r-3
-put_path-requires-then-r-3 c = let h : 16 ≡ length c.args.r.names = slice_bounds-put_path-end-then-r-3 c in record {
+put_path-requires-then-r-3 c = record {
   reads = (
     c.requires.0,
     omega (
@@ -51,7 +51,7 @@ put_path-requires-then-r-3 c = let h : 16 ≡ length c.args.r.names = slice_boun
       c.put-a-then-r-3.auto.out,
     ),
   );
-  count_bound = (c.requires.2, omega (arith, c.requires.2, h));
+  count_bound = omega (arith, c.requires.2, slice_bounds-put_path-end-then-r-3 c);
 }
 
 pub returns-then-r-3 : goal.returns-then-r-3

@@ -1,7 +1,5 @@
-use Prim.Native.Nat.{◌<◌}
 use mathlib.Core.Path.{refl, ◌∙◌}
 use native.Mathlib.Omega.{arith}
-use lib.Seq.{length-take-le, get_or-take}
 use Rattle.line.proofs.Laws.{tail_none, tail_next, path_done}
 use Rattle.printing.proofs.Laws.{put_as, put_two, put_none}
 use Rattle.find_path.specs.Line.{written_of}
@@ -13,8 +11,7 @@ loop-i-init c = (omega arith, refl, put_as (tail_none _ _ _) (put_none _ _), ome
 
 pub put_part-to-requires : goal.put_part-to-requires
 put_part-to-requires c =
-    let l = c.loop-i in
-    let z = length-take-le c.args.count c.args.names.now c.requires.count_bound.1 in (
+    let l = c.loop-i in (
       c.requires.reads.0,
       omega (
         arith,
@@ -32,22 +29,19 @@ put_part-to-requires c =
 pub loop-i-preserved : goal.loop-i-preserved
 loop-i-preserved c =
     let s = c.args in
-    let l = c.loop-i in
-    let z = length-take-le s.count s.names.now c.requires.count_bound.1 in
-    let h : l.i < s.count = omega arith in (
+    let l = c.loop-i in (
       omega arith,
       c.put_part-to.auto.out ∙ l.invariant.1,
-      put_as (tail_next (written_of (snap_of s.words.now s.area.now s.l) s.edition) _ s.names.now l.i (get_or-take s.count s.names.now l.i 0 h))
+      put_as (tail_next (written_of (snap_of s.words.now s.area.now s.l) s.edition) _ s.names.now l.i refl)
           (put_two l.invariant.2 c.put_part-to.ensures.put),
       omega (arith, l.invariant.3, c.put_part-to.ensures.upper_bound),
     )
 
 pub returns : goal.returns
 returns c = let l = c.loop-i in
-    let p = c.put_prefix-to.ensures in
-    let z = length-take-le c.args.count c.args.names.now c.requires.count_bound.1 in record {
+    let p = c.put_prefix-to.ensures in record {
       put = put_as (path_done (written_of (snap_of c.args.words.now c.args.area.now c.args.l) c.args.edition)
-          c.args.kind c.args.names.now l.i c.args.count l.invariant.0 (omega arith) c.requires.count_bound.1)
+          c.args.kind c.args.names.now l.i l.invariant.0 (omega arith))
           (put_two p.put l.invariant.2);
-      upper_bound = omega (arith, l.invariant.0, l.invariant.3, p.upper_bound, c.requires.count_bound.0);
+      upper_bound = omega (arith, l.invariant.0, l.invariant.3, p.upper_bound, c.requires.count_bound);
     }

@@ -1,4 +1,4 @@
-use Prim.Native.Nat.{◌+◌, ◌-◌, ◌*◌, ◌≤◌}
+use Prim.Native.Nat.{◌+◌, ◌*◌, ◌≤◌}
 use mathlib.Core.Path.{◌≡◌}
 use lib.ListN.{length}
 use Rattle.line.proofs.Laws.{tail_to}
@@ -9,5 +9,5 @@ use Rattle.line.proofs.path.put_path.Given as goal
 
 abbrev pub invariant-loop-i : goal.invariant-loop-i
 invariant-loop-i l =
-    (l.i ≤ l.count) × (length l.out ≡ length l.initial.out) × Put l.initial.out l.initial.to (tail_to (written_of (snap_of l.words l.area l.l) l.edition) l.leading l.names l.i) l.out l.to
+    (l.i ≤ length l.names) × (length l.out ≡ length l.initial.out) × Put l.initial.out l.initial.to (tail_to (written_of (snap_of l.words l.area l.l) l.edition) l.leading l.names l.i) l.out l.to
     × (l.to ≤ l.initial.to + 257 * l.i)

@@ -22,8 +22,8 @@ loop-next-init c = (
   λ h. absurd (omega arith),
 )
 
-pub modules_from-e-requires : goal.modules_from-e-requires
-modules_from-e-requires c =
+pub modules_from-requires : goal.modules_from-requires
+modules_from-requires c =
     let l = c.loop-next in
     let W = c.args.words.now in
     let A = c.args.area.now in (
@@ -34,12 +34,6 @@ modules_from-e-requires c =
           c.requires.0 c.requires.4 l.invariant.0.below c.requires.5,
     )
 
-pub returns-in_default : goal.returns-in_default
-returns-in_default c =
-    let A = c.args.area.now in
-    pushing_done _ _ _ _ _ c.loop-next.invariant.0 (leads_end c.args.words.now A c.args.l c.args.from.0
-    c.args.m.0 (next_none (c.modules_from-e.ensures A) c.in_default.is))
-
 pub first_of-requires : goal.first_of-requires
 first_of-requires c =
     few_words c.args.words.now c.args.area.now c.args.l c.requires.0
@@ -49,7 +43,7 @@ leads-requires c =
     let l = c.loop-next in
     let W = c.args.words.now in
     let A = c.args.area.now in
-    let x = next_record (c.modules_from-e.ensures A) c.in-Some.is in
+    let x = next_record (c.modules_from.ensures A) c.in-Some.is in
     let t = c.first_of.ensures A ∙ ap (λ y. (definition_of (snap_of W A c.args.l) y).first) c.scope_definition.ensures in (
       reads_at W A l.area c.args.l c.args.s.top c.requires.0 c.requires.2.tables l.invariant.0.below,
       c.requires.1,
@@ -63,7 +57,7 @@ push_module-run-requires c =
     let l = c.loop-next in
     let W = c.args.words.now in
     let A = c.args.area.now in
-    let x = next_record (c.modules_from-e.ensures A) c.in-Some.is in
+    let x = next_record (c.modules_from.ensures A) c.in-Some.is in
     let t = c.first_of.ensures A ∙ ap (λ y. (definition_of (snap_of W A c.args.l) y).first) c.scope_definition.ensures in (
       l.invariant.0.ready,
       c.requires.3,
@@ -80,7 +74,7 @@ overflow_add-k c =
     let l = c.loop-next in
     let W = c.args.words.now in
     let A = c.args.area.now in
-    let x = next_record (c.modules_from-e.ensures A) c.in-Some.is in
+    let x = next_record (c.modules_from.ensures A) c.in-Some.is in
     record { fits = omega (arith, x.below, few_words W A c.args.l c.requires.0) }
 
 pub loop-next-smaller : goal.loop-next-smaller
@@ -88,7 +82,7 @@ loop-next-smaller c =
     let l = c.loop-next in
     let W = c.args.words.now in
     let A = c.args.area.now in
-    let x = next_record (c.modules_from-e.ensures A) c.in-Some.is in
+    let x = next_record (c.modules_from.ensures A) c.in-Some.is in
     omega (arith, x.below, x.from)
 
 pub loop-next-preserved : goal.loop-next-preserved
@@ -96,7 +90,7 @@ loop-next-preserved c =
     let l = c.loop-next in
     let W = c.args.words.now in
     let A = c.args.area.now in
-    let x = next_record (c.modules_from-e.ensures A) c.in-Some.is in
+    let x = next_record (c.modules_from.ensures A) c.in-Some.is in
     let t = c.first_of.ensures A ∙ ap (λ y. (definition_of (snap_of W A c.args.l) y).first) c.scope_definition.ensures in
     let q = c.leads.ensures ∙ ap (λ y. eqb (crate_of y c.first_of.result) (crate_of y c.args.from.0) && sees y
     c.args.from.0 (scope_at W c.in-Some.next.head)) (snap_at W A l.area c.args.l c.args.s.top c.requires.0
@@ -111,3 +105,9 @@ loop-next-preserved c =
       omega (arith, x.below),
       k,
     )
+
+pub returns : goal.returns
+returns c =
+    let A = c.args.area.now in
+    pushing_done _ _ _ _ _ c.loop-next.invariant.0 (leads_end c.args.words.now A c.args.l c.args.from.0
+    c.args.m.0 (next_none (c.modules_from.ensures A) c.in_default.is))

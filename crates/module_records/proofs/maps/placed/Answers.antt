@@ -1,20 +1,10 @@
-use Prim.Native.Nat.{◌+◌}
 use mathlib.Core.Path.{sym, ◌∙◌}
-use native.Mathlib.Omega.{arith}
 use borrow.Author.Tests.{eq-eqb, ne_eqb}
 use Rattle.record_rules.proofs.Laws.{or_yes, or_no}
 use Rattle.module_records.proofs.maps.placed.Goals as goal
 
 pub returns-then-block-eq0 : goal.returns-then-block-eq0
 returns-then-block-eq0 c = or_yes _ (eq-eqb _ _ (sym c.map_block-block.ensures ∙ c.if-block-eq0.true))
-
-pub module_head-requires : goal.module_head-requires
-module_head-requires c = omega (
-  arith,
-  c.map_block-block.ensures,
-  c.type_inv.words
-      (c.args.at + 1),
-)
 
 pub returns : goal.returns
 returns c =

@@ -16,14 +16,6 @@ returns-in_err-judge c ms st =
     c.placed.ensures
     (refusal_some _))
 
-pub overflow_add-area : goal.overflow_add-area
-overflow_add-area c =
-    omega (arith, c.requires.place, c.requires.fits, c.requires.short)
-
-pub overflow_cast-area : goal.overflow_cast-area
-overflow_cast-area c =
-    omega (arith, c.requires.place, c.requires.fits, c.requires.short)
-
 pub bounds-area-krate : goal.bounds-area-krate
 bounds-area-krate c =
     let e = map_crate_small c.args.words.now c.args.at c.args.l _ _ _ _ c.in_ok-judge.ensures

@@ -1,20 +1,10 @@
-use Prim.Native.Nat.{◌+◌}
 use mathlib.Core.Path.{sym, ◌∙◌}
-use native.Mathlib.Omega.{arith}
 use borrow.Author.Tests.{eq-eqb, ne_eqb}
 use Rattle.record_rules.proofs.Laws.{or_yes, or_no}
 use Rattle.module_records.proofs.modules.parent_placed.Goals as goal
 
 pub returns-then-parent-eq0 : goal.returns-then-parent-eq0
 returns-then-parent-eq0 c = or_yes _ (eq-eqb _ _ (sym c.module_parent-parent.ensures ∙ c.if-parent-eq0.true))
-
-pub module_map-requires : goal.module_map-requires
-module_map-requires c = omega (
-  arith,
-  c.module_parent-parent.ensures,
-  c.type_inv.words
-      (c.args.at + 1),
-)
 
 pub returns : goal.returns
 returns c = or_no (ne_eqb _ _ (λ e. c.if-parent-eq0.false (c.module_parent-parent.ensures ∙ e)))

@@ -4,7 +4,6 @@ use Rattle.std.proofs.lemmas.Result.{err_from_is_err_and}
 use Rattle.snapshot.proofs.Laws.{refusal_some}
 use Rattle.module_records.proofs.ModuleRows.{module_no_lem, module_on}
 use lib.ListN.{length-set}
-use Prim.Native.Nat.{◌+◌}
 use Rattle.module_records.proofs.modules.step.Goals as goal
 
 pub returns-in_err-judge : goal.returns-in_err-judge
@@ -19,15 +18,6 @@ returns-in_err-judge c ms st =
 
 pub bounds-area-row-2 : goal.bounds-area-row-2
 bounds-area-row-2 c = simp length-set (omega arith)
-
-pub overflow_cast-area-2 : goal.overflow_cast-area-2
-overflow_cast-area-2 c =
-    omega (
-      arith,
-      c.module_parent.ensures,
-      c.type_inv.words
-          (c.args.at + 1),
-    )
 
 pub bounds-area-row-3 : goal.bounds-area-row-3
 bounds-area-row-3 c = simp length-set (omega arith)

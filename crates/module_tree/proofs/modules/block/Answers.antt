@@ -1,5 +1,4 @@
 use mathlib.Core.Path.{ap, ◌∙◌}
-use native.Mathlib.Omega.{arith}
 use Rattle.snapshot.specs.Records.{map_at}
 use Rattle.module_tree.proofs.Reading.{block_read}
 use Rattle.module_tree.proofs.modules.block.Goals as goal

@@ -1,5 +1,4 @@
 use mathlib.Core.Path.{ap, ◌∙◌}
-use native.Mathlib.Omega.{arith}
 use Rattle.snapshot.specs.Records.{map_at}
 use Rattle.module_tree.proofs.Reading.{crate_read}
 use Rattle.module_tree.proofs.modules.krate.Goals as goal

@@ -1,5 +1,4 @@
 use mathlib.Core.Path.{ap, ◌∙◌}
-use native.Mathlib.Omega.{arith}
 use lib.Dec.{eqb}
 use Rattle.snapshot.specs.Records.{map_at}
 use Rattle.module_tree.proofs.Reading.{no_std_read}

@@ -1,5 +1,4 @@
 use mathlib.Core.Path.{◌∙◌}
-use native.Mathlib.Omega.{arith}
 use Rattle.module_tree.proofs.Reading.{parent_read}
 use Rattle.module_tree.proofs.modules.parent.Goals as goal
 

@@ -1,4 +1,4 @@
-use mathlib.Core.Path.{refl, sym, ◌∙◌}
+use mathlib.Core.Path.{sym, ◌∙◌}
 use native.Mathlib.Omega.{arith}
 use Rattle.snapshot.specs.Layouts.{snap_of}
 use Rattle.module_tree.proofs.Reading.{length_modules}

@@ -7,10 +7,6 @@ pub is_lang-std-requires : goal.is_lang-std-requires
 is_lang-std-requires c =
     few_words c.args.words.now c.args.area.now c.args.l c.requires.0
 
-pub crate_root-root-requires : goal.crate_root-root-requires
-crate_root-root-requires c =
-    (c.requires.0, c.requires.1)
-
 pub returns : goal.returns
 returns c =
     let n = snap_of c.args.words.now c.args.area.now c.args.l in

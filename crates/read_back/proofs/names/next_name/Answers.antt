@@ -1,4 +1,4 @@
-use mathlib.Core.Path.{ap, ◌∙◌}
+use mathlib.Core.Path.{◌∙◌}
 use Rattle.snapshot.specs.Layouts.{snap_of}
 use Rattle.readings.specs.Reads.{later_name}
 use Rattle.read_back.proofs.Cases.{after_none, after_some}

@@ -1,4 +1,4 @@
-use mathlib.Core.Path.{sym, ap, ◌∙◌}
+use mathlib.Core.Path.{sym, ◌∙◌}
 use lib.ListN.{take}
 use Rattle.snapshot.specs.Layouts.{snap_of}
 use Rattle.read_back.proofs.Cases.{back_none, back_some}

@@ -1,4 +1,3 @@
-use borrow.Author.Tests.{not-true, not-false}
 use Rattle.record_rules.proofs.Laws.{crate_32, crate_43, crate_36, crate_0}
 use Rattle.record_rules.proofs.crates.judge_crate.Goals as goal
 

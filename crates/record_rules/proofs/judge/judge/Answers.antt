@@ -1,4 +1,3 @@
-use borrow.Author.Tests.{not-true, not-false}
 use Rattle.record_rules.proofs.Laws.{judge_32, judge_33, judge_34, judge_35, judge_36, judge_0}
 use Rattle.record_rules.proofs.judge.judge.Goals as goal
 

@@ -19,7 +19,7 @@ loop-i-preserved c =
     let l = c.loop-i in (
       omega arith,
       padded_go _ _ _ _ _ l.invariant.1 (omega arith) c.text_bound-most.ensures (c.field.ensures
-          ∙ after_head c.args.words.now c.args.head l.i) c.if-most-field.false c.less-b.ensures,
+          ∙ after_head c.args.words.now c.args.head l.i) c.if-most-field.false c.saturating_sub-b.ensures,
     )
 
 pub returns : goal.returns

@@ -14,11 +14,6 @@ pub loop-k-init : goal.loop-k-init
 loop-k-init c =
     names_start c.args.words.now c.args.area.now c.args.at c.args.n c.requires.chained c.requires.n_le_name_limit.1 c.word-k.ensures
 
-pub overflow_sub-j : goal.overflow_sub-j
-overflow_sub-j c =
-    let h = c.loop-k-test.true in
-    omega arith
-
 pub same_text-requires : goal.same_text-requires
 same_text-requires c =
     let l = c.loop-k in
@@ -33,13 +28,6 @@ returns-then-same_text c =
     let l = c.loop-k in
     names_hit c.args.words.now c.args.area.now c.args.at c.args.n c.requires.chained c.requires.n_le_name_limit.1 l.k l.invariant
     c.loop-k-test.true c.name_head.ensures c.same_text.ensures c.if-same_text.true
-
-pub overflow_add-j : goal.overflow_add-j
-overflow_add-j c =
-    let l = c.loop-k in
-    let u = l.invariant.within in
-    let v = c.requires.n_le_name_limit.0 in
-    omega arith
 
 pub loop-k-smaller : goal.loop-k-smaller
 loop-k-smaller c =

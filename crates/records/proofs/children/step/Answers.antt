@@ -1,4 +1,3 @@
-use Prim.Native.Nat.{◌+◌}
 use mathlib.Core.Path.{refl, ap}
 use mathlib.Core.Bool.{not}
 use native.Mathlib.Omega.{arith}
@@ -8,13 +7,6 @@ use Rattle.snapshot.proofs.Laws.{refusal_some}
 use Rattle.records.proofs.Steps.{child_no, child_on}
 use Rattle.records.proofs.Linked.{child_small, child_linked}
 use Rattle.records.proofs.children.step.Goals as goal
-
-pub overflow_add-mark : goal.overflow_add-mark
-overflow_add-mark c = (omega (
-  arith,
-  c.child_child-child.ensures,
-  c.type_inv.words (c.args.at + 1),
-))
 
 pub returns-in_err-judge : goal.returns-in_err-judge
 returns-in_err-judge c ms st =

@@ -21,15 +21,6 @@ small_by : (size j : ℕ) {f : ℕ} → f < size → j ≤ size * j
 small_by zero j h = absurd (omega arith)
 small_by (suc size) j h = omega arith
 
-pub overflow_add-at : goal.overflow_add-at
-overflow_add-at c = (let p = c.requires.count_in_bounds.1 in let q = c.requires.count_in_bounds.2 in let r = c.requires.count_in_bounds.3 in omega arith)
-
-pub offset_bounds-words-at : goal.offset_bounds-words-at
-offset_bounds-words-at c = (let p = c.requires.count_in_bounds.1 in let q = c.requires.count_in_bounds.2 in let r = c.requires.count_in_bounds.3 in omega arith)
-
-pub bounds-words-at : goal.bounds-words-at
-bounds-words-at c = (let p = c.requires.count_in_bounds.1 in let r = c.requires.count_in_bounds.3 in omega arith)
-
 pub overflow_add-heads : goal.overflow_add-heads
 overflow_add-heads c = (let h = key_small _ c.requires.key_value.0 in let p = c.requires.count_in_bounds in omega arith)
 
@@ -37,9 +28,6 @@ pub loop-k-init : goal.loop-k-init
 loop-k-init c =
     records_start c.args.words.now c.args.area.now c.args.fields c.args.at c.args.base c.args.size
     c.args.count c.args.heads c.args.links c.requires.chained c.requires.key_value.0 c.requires.key_value.3 c.requires.key_value.4 c.word-k.ensures
-
-pub overflow_sub-j : goal.overflow_sub-j
-overflow_sub-j c = (let h = c.loop-k-test.true in omega arith)
 
 pub overflow_mul-size : goal.overflow_mul-size
 overflow_mul-size c =

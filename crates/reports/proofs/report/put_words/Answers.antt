@@ -3,7 +3,6 @@ use mathlib.Core.Path.{refl, ◌∙◌}
 use native.Mathlib.Omega.{arith}
 use lib.ListN.{length, length-set}
 use Rattle.reports.proofs.Laws.{words_start, words_next, words_done}
-use Rattle.reports.specs.Written.{low}
 use Rattle.reports.proofs.report.put_words.Goals as goal
 
 pub loop-i-init : goal.loop-i-init

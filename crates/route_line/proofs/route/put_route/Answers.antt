@@ -1,7 +1,5 @@
 use borrow.Author.Rules.{rules}
-use mathlib.Core.Path.{◌≡◌}
 use native.Mathlib.Omega.{arith}
-use lib.ListN.{length}
 use Rattle.printing.proofs.Laws.{put_as, put_none}
 use Rattle.route_line.proofs.Laws.{route_none, route_found}
 use Rattle.route_line.proofs.route.put_route.Goals as goal
@@ -13,9 +11,7 @@ pub slice_bounds-put_steps-end : goal.slice_bounds-put_steps-end
 slice_bounds-put_steps-end c = search rules
 
 pub put_steps-requires : goal.put_steps-requires
-put_steps-requires c =
-    let h : 17 ≡ length c.args.r.route = slice_bounds-put_steps-end c in
-    (c.requires.0, c.requires.1, omega (arith, c.requires.1, h))
+put_steps-requires c = (c.requires.0, omega (arith, c.requires.1, slice_bounds-put_steps-end c))
 
 pub returns : goal.returns
 returns c = let q = c.put_steps.ensures in

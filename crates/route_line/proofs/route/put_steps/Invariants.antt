@@ -7,5 +7,5 @@ use Rattle.route_line.proofs.route.put_steps.Given as goal
 
 abbrev pub invariant-loop-step : goal.invariant-loop-step
 invariant-loop-step l =
-    (l.step-index ≤ length l.step-items) × (length l.out ≡ length l.initial.out)
-    × Put l.initial.out l.at (steps_text (take l.step-index l.step-items)) l.out l.to × (l.to ≤ l.at + 29 * l.step-index)
+    (l.step-index ≤ length l.route) × (length l.out ≡ length l.initial.out)
+    × Put l.initial.out l.at (steps_text (take l.step-index l.route)) l.out l.to × (l.to ≤ l.at + 29 * l.step-index)

@@ -1,10 +1,5 @@
-use native.Mathlib.Omega.{arith}
 use Rattle.scope_edits.proofs.Numbers.{entry_judged}
 use Rattle.scope_edits.proofs.entries.entry_fault.Goals as goal
-
-pub ns_placed-placed-requires : goal.ns_placed-placed-requires
-ns_placed-placed-requires c =
-    (omega (arith, c.requires), omega (arith, c.word-definition.ensures, c.type_inv.entry 3))
 
 pub returns : goal.returns
 returns c A =

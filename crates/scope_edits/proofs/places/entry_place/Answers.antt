@@ -14,18 +14,12 @@ returns-then-is_entry c =
     let W = a.words.now in
     walk_stop (is_entry (is_named a.owner a.ns a.name) W) W _ c.loop-at.at c.loop-at.invariant (sym c.is_entry.ensures ∙ c.if-is_entry.true)
 
-pub overflow_add-at : goal.overflow_add-at
-overflow_add-at c = let h = c.loop-at-test.true in omega arith
-
 pub overflow_add-at-in-loop-at : goal.overflow_add-at-in-loop-at
 overflow_add-at-in-loop-at c =
     let h = c.loop-at-test.true in
     let f = c.requires in
     let e = arguments_few c.args.words.now _ _ c.arguments.ensures in
     omega arith
-
-pub loop-at-smaller : goal.loop-at-smaller
-loop-at-smaller c = let h = c.loop-at-test.true in omega arith
 
 pub loop-at-preserved : goal.loop-at-preserved
 loop-at-preserved c =

@@ -15,18 +15,12 @@ returns-then-kind c =
     let W = c.args.words.now in
     walk_stop (is_later W) W _ c.loop-at.at c.loop-at.invariant (ap (ltb 9) (sym c.kind.ensures) ∙ lt-ltb 9 _ c.if-kind.true)
 
-pub overflow_add-at : goal.overflow_add-at
-overflow_add-at c = let h = c.loop-at-test.true in omega arith
-
 pub overflow_add-at-in-loop-at : goal.overflow_add-at-in-loop-at
 overflow_add-at-in-loop-at c =
     let h = c.loop-at-test.true in
     let f = c.requires in
     let e = arguments_few c.args.words.now _ _ c.arguments.ensures in
     omega arith
-
-pub loop-at-smaller : goal.loop-at-smaller
-loop-at-smaller c = let h = c.loop-at-test.true in omega arith
 
 pub loop-at-preserved : goal.loop-at-preserved
 loop-at-preserved c =
