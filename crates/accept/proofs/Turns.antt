@@ -9,9 +9,8 @@ use lib.Dec.{eqb, leb, ltb, lit≤}
 use borrow.Author.Tests.{ltb-true, leb-true, eqb-true}
 use Rattle.std.specs.Prelude.{None}
 use Rattle.snapshot.specs.Refusals.{form_refusal}
-use Rattle.snapshot.specs.Kinds.{kind_number, kind_with}
-use Rattle.snapshot.specs.declared.kind.Kind.{Kind}
-use Rattle.snapshot.proofs.KindLaws.{kind_unknown, kind_bounds}
+use Rattle.snapshot.specs.Kinds.{kind_with}
+use Rattle.snapshot.proofs.KindLaws.{kind_unknown}
 use Rattle.snapshot.specs.Words.{kind_of, pay_of, words_of, argument_table, arguments_of, arguments_at}
 use Rattle.snapshot.specs.Sizes.{scope_size}
 use Rattle.snapshot.specs.Records.{Map, Snapshot}
@@ -72,10 +71,6 @@ module _ (W : List ℕ) (at last : ℕ) (s : Snapshot) {k : ℕ} (ek : k ≡ kin
 -- a number that is no kind's
 pub follows_none : (last k : ℕ) → kind_with k ≡ None → follows last k ≡ false
 follows_none last k e = ap (λ b. b && (leb last k || eqb last 5 && eqb k 4)) (kind_unknown k e)
-
--- a kind's
-pub follows_kind : (last : ℕ) (k : Kind) → (leb last (kind_number k) || eqb last 5 && eqb (kind_number k) 4) ≡ follows last (kind_number k)
-follows_kind last k = ap (λ b. b && (leb last (kind_number k) || eqb last 5 && eqb (kind_number k) 4)) (sym (kind_bounds k))
 
 -- a record of a later kind, or a map after a module
 rises : (last k : ℕ) → follows last k ≡ true → (t : ℕ) → (t ≡ 5 → ⊥) → k < t → last < t

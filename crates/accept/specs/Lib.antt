@@ -1,3 +1,4 @@
 pub mod Post
 pub mod Valid
 pub mod Ends
+pub mod Opened

@@ -55,6 +55,7 @@ Readable W A (Err e) = Unit
 Readable W A (Ok l) = Tables W A l
 
 -- the answer is the verdict's, and accepted words can be read by the tables
+-- (a clause and no type: the area is written between, and a value with this fact would have to be made anew after each write)
 pub record Judged (W A : List ℕ) (r : Checked) : Type 0 where
   pub same : outcome W A r ≡ verdict W
   pub tables : Readable W A r

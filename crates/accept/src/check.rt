@@ -20,6 +20,7 @@ pub struct Refused {
     pub at: usize,
 }
 
+// What `?` calls where no place is told; no derive makes it.
 impl From<Refused> for Refusal {
     ghost from_gives = { λ no why. why ≡ no.why };
 
@@ -29,6 +30,7 @@ impl From<Refused> for Refusal {
 }
 
 // The records one after the other.
+// `while`: records differ in size, so the place of the next one is read.
 fn read_records(words: &[u32], area: &mut [u32]) -> Result<Layout, Refused>
     requires { (length words.now ≤ word_limit) × (area_limit ≤ length area.old) }
     ensures { Ended words.now area.new result }

@@ -4,4 +4,5 @@
 mod arguments;
 pub mod check;
 mod finish;
+pub mod opened;
 mod turn;

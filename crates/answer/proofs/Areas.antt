@@ -5,6 +5,8 @@ use mathlib.Core.List.{List, ◌++◌, append-nil}
 use native.Mathlib.Omega.{arith}
 use borrow.Author.Tests.{lt-ltb, le-ltb}
 use borrow.Author.Fill.{fill_more}
+use lib.Seq.{length-take-le}
+use Rattle.std.specs.Array.{IsFirstChunk}
 use lib.ListN.{length, set, drop, replicate, drop_of_length-le}
 use Rattle.snapshot.specs.Limits.{area_limit}
 use Rattle.snapshot.specs.Refusals.{area_refusal}
@@ -13,6 +15,10 @@ use Rattle.find_path.specs.declared.Report.{Report}
 use Rattle.find_path.specs.Report.{call_fault, refused, report_of}
 use Rattle.checked.proofs.Laws.{small, report_fault, same_report}
 use Rattle.answer.specs.Answers.{zeros, area_after, Answers}
+
+-- the front of an area
+pub front_long : {A B : List ℕ} → IsFirstChunk A B area_limit → length B ≡ area_limit
+front_long f = ap length f.same ∙ length-take-le area_limit _ f.enough
 
 -- an entry point
 

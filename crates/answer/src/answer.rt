@@ -10,13 +10,12 @@ use checked::checked::report_on;
 use checked::faults::call_fault;
 use find_path::{Question, Report};
 use reports::report::refused;
-use snapshot::ids::WordCount;
+use snapshot::ids::Area;
 use snapshot::refusal::Refusal;
 
 // The report, in a work area that serves and is cleared.
 // The steps of any_answer and reach_answer over another report: a closure between them would have to carry what it leaves in the area.
-fn find_path_within(words: &[u32], area: &mut [u32], question: Question) -> Report
-    requires { length area.old ≡ area_limit }
+fn find_path_within(words: &[u32], area: &mut Area, question: Question) -> Report
     ensures value { result ≡ report_of words.now area_limit question }
     ensures area_after { area.new ≡ zeros area_limit }
 {
@@ -31,12 +30,13 @@ fn find_path_within(words: &[u32], area: &mut [u32], question: Question) -> Repo
 pub fn find_path(words: &[u32], area: &mut [u32], question: Question) -> Report
     ensures { Answers words.now area.old question area.new result }
 {
-    if area.len() < WordCount::AREA {
+    let size = area.len();
+    let Some(front) = area.first_chunk_mut() else {
         return refused(Refusal::Area.number());
-    }
-    if let Err(why) = call_fault(area.len(), question.query, question.fuel) {
-        clear(&mut area[..WordCount::AREA]);
+    };
+    if let Err(why) = call_fault(size, question.query, question.fuel) {
+        clear(front);
         return refused(why.number());
     }
-    find_path_within(words, &mut area[..WordCount::AREA], question)
+    find_path_within(words, front, question)
 }

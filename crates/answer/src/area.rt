@@ -2,7 +2,7 @@
 ghost use Rattle.std.specs.Prelude.{◌≡◌, length};
 ghost use Rattle.answer.specs.Answers.{zeros, area_after};
 
-use snapshot::ids::WordCount;
+use snapshot::ids::Area;
 
 /// Sets every word to zero.
 pub fn clear(area: &mut [u32])
@@ -15,8 +15,8 @@ pub fn clear(area: &mut [u32])
 pub fn clear_front(area: &mut [u32])
     ensures { area.new ≡ area_after area.old }
 {
-    if area.len() < WordCount::AREA {
-        return;
+    let front: Option<&mut Area> = area.first_chunk_mut();
+    if let Some(front) = front {
+        clear(front);
     }
-    clear(&mut area[..WordCount::AREA]);
 }

@@ -11,12 +11,12 @@ use accept::check::check;
 pub use checked::lines::LineBytes;
 use checked::lines::{line_on, put_refusal};
 use find_path::Question;
-use snapshot::ids::WordCount;
+use snapshot::ids::Area;
 use snapshot::refusal::Refusal;
 
 // The line, in a work area that serves and is cleared.
-fn line_within(words: &[u32], area: &mut [u32], question: Question, out: &mut [u8]) -> usize
-    requires { (length area.old ≡ area_limit) × (line_limit ≤ length out.old) }
+fn line_within(words: &[u32], area: &mut Area, question: Question, out: &mut [u8]) -> usize
+    requires { line_limit ≤ length out.old }
     ensures put { Put out.old 0 (line_of words.now question ++ bytes_of "\n") out.new result }
     ensures area_after { area.new ≡ zeros area_limit }
 {
@@ -28,6 +28,7 @@ fn line_within(words: &[u32], area: &mut [u32], question: Question, out: &mut [u
 
 /// Puts the line of a question on the words of a snapshot at the front, with its end (byte 10), and answers how many bytes these
 /// are. The work area is left as `find_path` leaves it. With fewer than `LineBytes::LIMIT` bytes it answers 0 and puts nothing.
+// No `Result`: the C interface has a length, 0 where nothing is put; a refusal is a line as any.
 pub fn find_line(words: &[u32], area: &mut [u32], question: Question, out: &mut [u8]) -> usize
     ensures { Lined words.now area.old question out.old area.new out.new result }
 {
@@ -35,8 +36,8 @@ pub fn find_line(words: &[u32], area: &mut [u32], question: Question, out: &mut 
         clear_front(area);
         return 0;
     }
-    if area.len() < WordCount::AREA {
+    let Some(front) = area.first_chunk_mut() else {
         return put_refusal(out, Refusal::Area.number());
-    }
-    line_within(words, &mut area[..WordCount::AREA], question, out)
+    };
+    line_within(words, front, question, out)
 }

@@ -2,15 +2,15 @@
 use Prim.Native.Nat.{ℕ, zero, suc, ◌≤◌, ◌<◌}
 use mathlib.Core.Path.{◌≡◌, refl, sym, ap, ap₂, subst, ◌∙◌}
 use mathlib.Core.List.{List, [], ◌∷◌, ◌++◌}
-use mathlib.Core.Bool.{true, false, not, true≢false}
-use Rattle.std.specs.Prelude.{Option, None, Some}
+use Rattle.std.specs.Prelude.{Option, None, Some, option_map}
 use native.Mathlib.Omega.{arith}
-use borrow.Author.Tests.{le-leb, lt-leb, not-true, not-false}
+use borrow.Author.Tests.{le-leb, lt-leb}
 use lib.ListN.{length, get_or, drop}
 use Rattle.snapshot.specs.Limits.{area_limit}
 use Rattle.snapshot.specs.Refusals.{area_refusal}
 use Rattle.snapshot.specs.Records.{Snapshot}
 use Rattle.snapshot.specs.Layouts.{snap_of}
+use Rattle.snapshot.specs.PathKinds.{path_kind_number}
 use Rattle.snapshot.specs.declared.layout.Layout.{Layout}
 use Rattle.check_rules.specs.Verdict.{accept, verdict}
 use Rattle.accept.specs.Post.{Checked, Judged}
@@ -24,8 +24,8 @@ use Rattle.nameable.specs.Breadth.{found, longer, names_limit, up_to, shortest, 
 use Rattle.find_path.specs.declared.Query.{Query}
 use Rattle.find_path.specs.Report.{call_fault, question_fault}
 use Rattle.told_paths.specs.declared.ToldPath.{ToldPath}
-use Rattle.told_paths.specs.Tells.{padded, told_none, tell, told_by}
-use Rattle.told_paths.proofs.Laws.{tell_few, tell_count, tell_found}
+use Rattle.told_paths.specs.Tells.{padded, tell}
+use Rattle.told_paths.proofs.Laws.{tell_few, tell_count, told_gone, told_there}
 use Rattle.checked.proofs.Laws.{small, same_fault, fault_known, definitions_count, modules_count}
 use Rattle.answer.specs.Answers.{zeros}
 use Rattle.answer.proofs.Areas.{area_small, area_large}
@@ -42,47 +42,46 @@ unfolding up_to
 up_many p h = rw (up_to, lt-leb (names_in p) names_limit h)
 
 -- What was found.
-module _ (s : Snapshot) (from ns : ℕ) (o : Option Path) {t : ToldPath} (e : t ≡ told_by o) where
-  nowhere_by : {r : AnyReport} (u : Option Path) → o ≡ u → not t.found ≡ true → r ≡ any_without 1 0 → r ≡ any_reported s from ns (up_to names_limit o)
-  unfolding up_to any_reported told_by
-  nowhere_by None z h er = er ∙ sym (ap (λ (v : Option Path). any_reported s from ns (up_to names_limit v)) z)
-  nowhere_by (Some p) z h er =
-      absurd (true≢false (sym (tell_found p) ∙ (sym (ap (λ (v : ToldPath). v.found) (e ∙ ap told_by z)) ∙ not-true t.found h)))
+module _ (s : Snapshot) (from ns : ℕ) where
+  pub told_nowhere : (o : Option Path) {r : AnyReport} → r ≡ any_without 1 0 → None ≡ option_map tell o → r ≡ any_reported s from ns (up_to names_limit o)
+  unfolding up_to any_reported
+  told_nowhere o er e = er ∙ sym (ap (λ (v : Option Path). any_reported s from ns (up_to names_limit v)) (told_gone o e))
 
-  pub told_nowhere : {r : AnyReport} → not t.found ≡ true → r ≡ any_without 1 0 → r ≡ any_reported s from ns (up_to names_limit o)
-  told_nowhere h er = nowhere_by o refl h er
+  pub told_there_by : (o : Option Path) {r : AnyReport} {t : ToldPath} → Some t ≡ option_map tell o
+      → ((p : Path) → t ≡ tell p → r ≡ any_reported s from ns (up_to names_limit (Some p))) → r ≡ any_reported s from ns (up_to names_limit o)
+  told_there_by o e er =
+      let f = told_there o e in er f.0 f.2 ∙ sym (ap (λ (v : Option Path). any_reported s from ns (up_to names_limit v)) f.1)
 
-  module _ (there : not t.found ≡ false) where
-    which : (u : Option Path) → o ≡ u → (p : Path) × (o ≡ Some p)
-    unfolding told_by told_none
-    which None z = absurd (true≢false (sym (not-false t.found there) ∙ ap (λ (v : ToldPath). v.found) (e ∙ ap told_by z)))
-    which (Some p) z = (p, z)
+  module _ (p : Path) {t : ToldPath} (e : t ≡ tell p) where
+    its_count : t.count ≡ names_in p
+    its_count = ap (λ (v : ToldPath). v.count) e ∙ tell_count p
 
-    its_count : (p : Path) → o ≡ Some p → t.count ≡ names_in p
-    unfolding told_by
-    its_count p z = ap (λ (v : ToldPath). v.count) (e ∙ ap told_by z) ∙ tell_count p
-
-    pub told_longer : {r : AnyReport} → names_limit < t.count → r ≡ any_without 3 0 → r ≡ any_reported s from ns (up_to names_limit o)
+    pub told_longer : {r : AnyReport} → names_limit < t.count → r ≡ any_without 3 0 → r ≡ any_reported s from ns (up_to names_limit (Some p))
     unfolding any_reported
-    told_longer h er =
-        let f = which o refl in
-        let c = its_count f.0 f.1 in
-        er ∙ sym (ap (any_reported s from ns) (ap (up_to names_limit) f.1 ∙ up_many f.0 (omega (arith, h, c))))
+    told_longer h er = let c = its_count in er ∙ sym (ap (any_reported s from ns) (up_many p (omega (arith, h, c))))
 
-    pub told_found : t.count ≤ names_limit → {R : List ℕ} → ((p : Path) → t ≡ tell p → names_in p ≤ names_limit → R ≡ padded (route_of s from ns p))
-        → record { outcome = 0; number = 0; kind = t.kind; supers = t.supers; names = t.names; count = t.count; route = R }
-        ≡ any_reported s from ns (up_to names_limit o)
-    unfolding any_reported told_by
-    told_found h er =
-        let f = which o refl in
-        let c = its_count f.0 f.1 in
-        let few : names_in f.0 ≤ names_limit = omega (arith, h, c) in
-        let its : t ≡ tell f.0 = e ∙ ap told_by f.1 in
-        ap₂
+    pub told_found : t.count ≤ names_limit → {R : List ℕ} {k : ℕ} → k ≡ path_kind_number t.kind
+        → (names_in p ≤ names_limit → R ≡ padded (route_of s from ns p))
+        → record { outcome = 0; number = 0; kind = k; supers = t.supers; names = t.names; count = t.count; route = R }
+        ≡ any_reported s from ns (up_to names_limit (Some p))
+    unfolding any_reported
+    told_found h {R} ek er =
+        let c = its_count in
+        let few : names_in p ≤ names_limit = omega (arith, h, c) in
+        ap (λ (k : ℕ). record { outcome = 0; number = 0; kind = k; supers = t.supers; names = t.names; count = t.count; route = R }) ek
+        ∙ (ap₂
         (λ (v : ToldPath) (R : List ℕ).
-        record { outcome = 0; number = 0; kind = v.kind; supers = v.supers; names = v.names; count = v.count; route = R })
-        (its ∙ tell_few f.0 few) (er f.0 its few)
-        ∙ sym (ap (any_reported s from ns) (ap (up_to names_limit) f.1 ∙ up_few f.0 few))
+        record {
+          outcome = 0;
+          number = 0;
+          kind = path_kind_number v.kind;
+          supers = v.supers;
+          names = v.names;
+          count = v.count;
+          route = R;
+        })
+        (e ∙ tell_few p few) (er few)
+        ∙ sym (ap (any_reported s from ns) (up_few p few)))
 
 -- On accepted words.
 module _ (s : Snapshot) (q : Query) where

@@ -4,6 +4,7 @@ use Rattle.snapshot.specs.Limits.{path_limit}
 use Rattle.snapshot.specs.Refusals.{refusal_number}
 use Rattle.snapshot.specs.declared.refusal.Refusal.{Refusal}
 use Rattle.snapshot.specs.Records.{Snapshot}
+use Rattle.snapshot.specs.PathKinds.{path_kind_number}
 use Rattle.check_rules.specs.Verdict.{Verdict, refuse, accept, verdict}
 use Rattle.hir_def.specs.Items.{item_of}
 use Rattle.nameable.specs.Paths.{names_in, names_of, route_of}
@@ -33,7 +34,7 @@ any_reported s from ns (found p) =
     record {
       outcome = 0;
       number = 0;
-      kind = kind_of p;
+      kind = path_kind_number (kind_of p);
       supers = supers_of p;
       names = padded (names_of p);
       count = names_in p;

@@ -5,43 +5,50 @@ ghost use Rattle.accept.specs.Post.{Judged};
 ghost use Rattle.any_answer.specs.Any.{any_report, told};
 
 use crate::AnyReport;
-use crate::report::{refused, reported};
+use crate::report::{AnyOutcome, refused, reported, without};
 use accept::check::Refused;
+use accept::opened::Snapshot;
 use checked::faults::{call_fault, question_fault};
 use find_path::Query;
 use hir_def::items::item_of;
 use shortest_paths::shortest::shortest;
+use snapshot::ids::Area;
 use snapshot::layout::Layout;
+use snapshot::records::Records;
 use snapshot::refusal::Refusal;
 use told_routes::routes::route_of;
 
 // What was found, or why the question is refused.
 fn answered(
     words: &[u32],
-    area: &mut [u32],
+    area: &mut Area,
     c: Result<Layout, Refused>,
     q: Query,
 ) -> Result<AnyReport, Refusal>
-    requires { Judged words.now area.old c × (length area.old ≡ area_limit) }
+    requires { Judged words.now area.old c }
     ensures { told result ≡ any_report words.now area_limit q }
 {
     call_fault(area.len(), q, 0)?;
-    let l = c?;
-    question_fault(words, l, q)?;
-    let item = item_of(words, l, q.ns, q.definition);
-    let t = shortest(words, area, l, q.from, item);
-    let route = route_of(words, area, l, q.from, q.ns, t);
+    let layout = c?;
+    let records = Records { words, layout };
+    question_fault(&records, q)?;
+    let item = item_of(&records, q.ns, q.definition);
+    let Some(t) = shortest(&records, area, q.from, item) else {
+        return Ok(without(AnyOutcome::Nowhere, 0));
+    };
+    let db = Snapshot { records, area };
+    let route = route_of(&db, q.from, q.ns, t);
     Ok(reported(t, route))
 }
 
 /// The answer on checked words.
 pub(crate) fn any_on(
     words: &[u32],
-    area: &mut [u32],
+    area: &mut Area,
     c: Result<Layout, Refused>,
     q: Query,
 ) -> AnyReport
-    requires { Judged words.now area.old c × (length area.old ≡ area_limit) }
+    requires { Judged words.now area.old c }
     ensures { result ≡ any_report words.now area_limit q }
 {
     match answered(words, area, c, q) {

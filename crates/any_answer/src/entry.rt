@@ -10,13 +10,12 @@ use crate::report::refused;
 use accept::check::check;
 use answer::area::clear;
 use find_path::Query;
-use snapshot::ids::{DefinitionId, ModuleId, PathLen, WordCount};
+use snapshot::ids::{Area, DefinitionId, ModuleId, PathLen};
 use snapshot::refusal::Refusal;
 
 // The answer, in a work area that serves and is cleared.
 // Three steps, as in `answer`; shared, the middle one would be a closure that writes the area, under a contract longer than this body.
-fn any_within(words: &[u32], area: &mut [u32], q: Query) -> AnyReport
-    requires { length area.old ≡ area_limit }
+fn any_within(words: &[u32], area: &mut Area, q: Query) -> AnyReport
     ensures value { result ≡ any_report words.now area_limit q }
     ensures area_after { area.new ≡ zeros area_limit }
 {
@@ -28,6 +27,7 @@ fn any_within(words: &[u32], area: &mut [u32], q: Query) -> AnyReport
 
 /// Whether any path names the definition, in the namespace, in the module, on the words of a snapshot: a shortest one where it has at most
 /// sixteen names. The work area is left as `find_path` leaves it.
+// `ns` is a namespace and no length: each slice has its own.
 pub fn any_path(
     words: &[u32],
     area: &mut [u32],
@@ -37,9 +37,9 @@ pub fn any_path(
 ) -> AnyReport
     ensures { AnyAnswers words.now area.old ns definition from area.new result }
 {
-    if area.len() < WordCount::AREA {
+    let Some(front) = area.first_chunk_mut() else {
         return refused(Refusal::Area);
-    }
+    };
     let q = Query {
         ns: ns,
         definition: DefinitionId(definition),
@@ -48,5 +48,5 @@ pub fn any_path(
         options: 0,
         limit: PathLen::LIMIT,
     };
-    any_within(words, &mut area[..WordCount::AREA], q)
+    any_within(words, front, q)
 }

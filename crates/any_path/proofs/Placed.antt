@@ -1,10 +1,11 @@
 -- The record by which the last name of a row's path is read.
-use Prim.Native.Nat.{ℕ, suc, ◌-◌, ◌≤◌, ◌<◌}
+use Prim.Native.Nat.{ℕ, suc, ◌+◌, ◌-◌, ◌≤◌, ◌<◌}
 use mathlib.Core.Path.{◌≡◌, refl, sym, ap, ◌∙◌}
 use mathlib.Core.List.{List}
 use Rattle.std.specs.Prelude.{Option, None, Some, option_map}
 use native.Mathlib.Omega.{arith}
 use lib.Dec.{eqb}
+use Rattle.snapshot.specs.Limits.{module_limit}
 use Rattle.snapshot.specs.Records.{Snapshot}
 use Rattle.accept.proofs.Accepted.{by_test}
 use Rattle.accept.proofs.Bools.{each_rows}
@@ -20,7 +21,7 @@ use Rattle.nameable.proofs.Reached.{item_in_lem}
 use Rattle.nameable.proofs.Lookups.{named_seen}
 use Rattle.any_path.specs.Rows.{target_at, link_at, name_at, keyword_from, path_from, path_to, path_at, way_at, run_at, Meant, InRun}
 use Rattle.any_path.specs.Plain.{externs_named}
-use Rattle.any_path.proofs.Written.{from_same, path_same}
+use Rattle.any_path.proofs.Written.{from_same, path_same, run_small}
 use Rattle.any_path.proofs.Plains.{externs_read}
 
 keyword_place : (o : Option ℕ) → 0 ≡ place_in (module_named o)
@@ -53,6 +54,13 @@ module _ (s : Snapshot) (from modules : ℕ) (A : List ℕ) (i : ℕ) (there : I
       from_same (path_to i A) (path_at A) (link_at A i) (name_at A i)
       (λ j e. path_same A A there.n there.run.linked (λ k h. refl) (λ k h. refl) i (suc j) j (omega (arith, l, e)) (omega arith) (omega
       (arith, l, e, b)))
+
+  -- its number, and its link, are small
+  pub row_small : modules ≤ module_limit → i < module_limit
+  row_small few = omega (arith, run_small modules A there.n there.run few, there.below)
+
+  pub link_small : modules ≤ module_limit → {k : ℕ} → k ≡ link_at A i → k < module_limit + 3
+  link_small few e = omega (arith, row_small few, there.run.linked i there.below, e)
 
   row_means : (j : ℕ) → j < there.n → Meant s from (way_at A j)
   unfolding run_at

@@ -113,6 +113,17 @@ run_few modules A n run = omega (arith, run.few, passing_few (is_met (run_at A n
 pub run_small : (modules : ℕ) (A : List ℕ) (n : ℕ) → Run modules A n → modules ≤ module_limit → n ≤ module_limit
 run_small modules A n run few = omega (arith, run_few modules A n run)
 
+-- there is room for one more
+module _ {modules : ℕ} {A : List ℕ} {n t : ℕ} (run : Run modules A n) (few : modules ≤ module_limit) (known : t < modules)
+    (new : is_met (run_at A n) t ≡ false) where
+  pub row_fits : n < modules
+  row_fits =
+      let a = passing_less (is_met (run_at A n)) (λ m. true) (λ m e. refl) t modules known new refl in
+      omega (arith, a, passing_few (λ m. true) modules, run.few)
+
+  pub row_space : row_at n + 3 < length A
+  row_space = omega (arith, row_fits, few, run.space)
+
 module _ (modules : ℕ) (A : List ℕ) (n t k x : ℕ) (run : Run modules A n) where
   -- the module has a row
   pub offer_old : is_met (run_at A n) t ≡ true → Offered modules A n t k x A n
@@ -127,14 +138,8 @@ module _ (modules : ℕ) (A : List ℕ) (n t k x : ℕ) (run : Run modules A n) 
       }
 
   module _ (few : modules ≤ module_limit) (known : t < modules) (link : k < n + 3) (new : is_met (run_at A n) t ≡ false) where
-    -- there is room for one more
-    pub row_fits : n < modules
-    row_fits =
-        let a = passing_less (is_met (run_at A n)) (λ m. true) (λ m e. refl) t modules known new refl in
-        omega (arith, a, passing_few (λ m. true) modules, run.few)
-
-    pub row_space : row_at n + 3 < length A
-    row_space = omega (arith, row_fits, few, run.space)
+    abbrev space : row_at n + 3 < length A
+    space = row_space run few known new
 
     -- it gets one
     pub offer_new : (p : ℕ) → Offered modules A n t k x (written A n t k x p) (n + 1)
@@ -142,19 +147,19 @@ module _ (modules : ℕ) (A : List ℕ) (n t k x : ℕ) (run : Run modules A n) 
         let ws : List Way = run_at A n in
         let q : Path = path_from (path_at A) k x in
         let vs : List Way = ws ++ (way_to q t ∷ []) in
-        let whole : run_at (written A n t k x p) (n + 1) ≡ vs = run_more A n t k x p row_space run.linked link in
+        let whole : run_at (written A n t k x p) (n + 1) ≡ vs = run_more A n t k x p space run.linked link in
         let here : is_met vs t ≡ true = met_snoc ws (way_to q t) t ∙ rw (eq-eqb t t refl) (or-true (is_met ws t)) in
         let one = passing_less (is_met ws) (is_met vs) (λ m h. met_snoc ws (way_to q t) m ∙ rw h) t modules known new here in
         record {
           run = record {
             space = omega (arith, written_length A n t k x p, run.space);
-            linked = still_linked A n t k x p row_space run.linked link;
+            linked = still_linked A n t k x p space run.linked link;
             few = rw whole (omega (arith, one, run.few));
           };
           same = whole ∙ sym (with_new ws q t new);
           more = omega arith;
-          rows = old_way A n t k x p row_space run.linked link;
-          stays = low_words A n t k x p row_space run.linked link;
+          rows = old_way A n t k x p space run.linked link;
+          stays = low_words A n t k x p space run.linked link;
           size = written_length A n t k x p;
         }
 

@@ -56,6 +56,7 @@ unfoldable pub run_at : List ℕ → ℕ → List Way
 run_at A n = rows (way_at A) 0 n
 
 -- n rows, of different modules below the number of modules
+-- (a clause and no type: the area is written between, and a value with this fact would have to be made anew after each write)
 pub record Run (modules : ℕ) (A : List ℕ) (n : ℕ) : Type 0 where
   pub space : row_at module_limit ≤ length A
   pub linked : (i : ℕ) → i < n → link_at A i < i + 3

@@ -2,7 +2,7 @@
 ghost use Rattle.std.specs.Prelude.{map, false, ◌≤◌, ◌<◌, length};
 ghost use Rattle.snapshot.specs.Lists.{rows};
 ghost use Rattle.snapshot.specs.Limits.{module_limit};
-ghost use Rattle.snapshot.specs.Layouts.{snap_of};
+ghost use Rattle.snapshot.specs.Laid.{snap_by};
 ghost use Rattle.accept.specs.Post.{Reads};
 ghost use Rattle.nameable.specs.Paths.{keyword, supers};
 ghost use Rattle.nameable.specs.Breadth.{added};
@@ -10,26 +10,36 @@ ghost use Rattle.nameable.specs.Queue.{begun};
 ghost use Rattle.any_path.specs.Rows.{row_at, run_at, Run, Grown};
 
 use crate::rows::{Row, offer};
+use accept::opened::Snapshot;
 use module_tree::modules::{crate_root, parent};
 use seen_entries::privacy::module_around;
 use snapshot::ids::ModuleId;
-use snapshot::layout::Layout;
+use snapshot::records::Records;
 
 // The modules that `super`, one time and more, means.
-fn offer_supers(words: &[u32], area: &mut [u32], l: Layout, from: ModuleId, n: usize) -> usize
-    requires { Reads words.now area.old l × (from.0 < l.modules) × Run l.modules area.old n }
-    ensures { Grown l.modules area.old n area.new result
-        (added (snap_of words.now area.old l) from.0 (run_at area.old n)
-        (map keyword (rows supers 1 (length (snap_of words.now area.old l).modules)))) }
+// `loop`: it climbs from parent to parent, and ends where there is none.
+fn offer_supers(records: &Records, area: &mut [u32], from: ModuleId, n: usize) -> usize
+    requires { Reads records.now.words.now area.old records.now.layout × (from.0 < records.now.layout.modules) × Run records.now.layout.modules area.old n }
+    ensures { Grown records.now.layout.modules area.old n area.new result
+        (added (snap_by records.now area.old) from.0 (run_at area.old n)
+        (map keyword (rows supers 1 (length (snap_by records.now area.old).modules)))) }
 {
-    let mut m = module_around(words, area, l, from);
+    let db = Snapshot {
+        records: *records,
+        area,
+    };
+    let mut m = module_around(&db, from);
     let mut count = n;
     let mut k = 0;
     loop {
-        let Some(p) = parent(words, area, l, m) else {
+        let db = Snapshot {
+            records: *records,
+            area,
+        };
+        let Some(p) = parent(&db, m) else {
             return count;
         };
-        m = module_around(words, area, l, p);
+        m = module_around(&db, p);
         k += 1;
         let row = Row {
             target: m.0,
@@ -37,31 +47,35 @@ fn offer_supers(words: &[u32], area: &mut [u32], l: Layout, from: ModuleId, n: u
             name: k + 1,
             place: 0,
         };
-        count = offer(area, l.modules, count, row);
+        count = offer(area, records.layout.modules, count, row);
     }
 }
 
 // The modules that `self`, `crate` and `super` mean.
-pub(crate) fn begin(words: &[u32], area: &mut [u32], l: Layout, from: ModuleId) -> usize
-    requires { Reads words.now area.old l × (from.0 < l.modules) × (row_at module_limit ≤ length area.old) }
-    ensures { Grown l.modules area.old 0 area.new result
-        (begun false (snap_of words.now area.old l) from.0) }
+pub(crate) fn begin(records: &Records, area: &mut [u32], from: ModuleId) -> usize
+    requires { Reads records.now.words.now area.old records.now.layout × (from.0 < records.now.layout.modules) × (row_at module_limit ≤ length area.old) }
+    ensures { Grown records.now.layout.modules area.old 0 area.new result
+        (begun false (snap_by records.now area.old) from.0) }
 {
-    let around = module_around(words, area, l, from);
-    let root = crate_root(words, area, l, from);
+    let db = Snapshot {
+        records: *records,
+        area,
+    };
+    let around = module_around(&db, from);
+    let root = crate_root(&db, from);
     let own = Row {
         target: around.0,
         link: 0,
         name: 1,
         place: 0,
     };
-    let one = offer(area, l.modules, 0, own);
+    let one = offer(area, records.layout.modules, 0, own);
     let top = Row {
         target: root.0,
         link: 0,
         name: 0,
         place: 0,
     };
-    let two = offer(area, l.modules, one, top);
-    offer_supers(words, area, l, from, two)
+    let two = offer(area, records.layout.modules, one, top);
+    offer_supers(records, area, from, two)
 }

@@ -1,70 +1,68 @@
 //! A row taken up: the modules that one name more means.
 ghost use Rattle.std.specs.Prelude.{◌≡◌, ◌<◌};
 ghost use Rattle.snapshot.specs.Records.{scope_at};
-ghost use Rattle.snapshot.specs.Layouts.{snap_of};
+ghost use Rattle.snapshot.specs.Laid.{snap_by};
 ghost use Rattle.accept.specs.Post.{Reads};
 ghost use Rattle.record_rules.specs.Stands.{counts_in};
 ghost use Rattle.accept.specs.Valid.{ScopeFits};
+ghost use Rattle.accept.specs.Opened.{snap_in};
 ghost use Rattle.hir_def.specs.Items.{types};
 ghost use Rattle.nameable.specs.Breadth.{added};
 ghost use Rattle.nameable.specs.Queue.{paths_after};
 ghost use Rattle.any_path.specs.Rows.{way_at, run_at, Run, Grown, leads_on, with_entry, Meant};
 
 use crate::rows::{Row, offer};
+use accept::opened::Snapshot;
 use hir_def::items::first_of;
 use item_scope::is_module_entry;
 use seen_entries::entries::seen;
 use snapshot::ids::ModuleId;
 use snapshot::kind::Size;
-use snapshot::layout::Layout;
 use snapshot::record::{scope_definition, scope_name};
+use snapshot::records::Records;
 use snapshot::words::word;
 
 // Whether the entry with its head at a place leads on from the module to another.
-pub(crate) fn leads_on(
-    words: &[u32],
-    area: &[u32],
-    l: Layout,
-    from: ModuleId,
-    m: ModuleId,
-    h: usize,
-) -> bool
-    requires { Reads words.now area.now l × (from.0 < l.modules) × ScopeFits (counts_in l) (scope_at words.now h) }
-    ensures { result ≡ leads_on (snap_of words.now area.now l) from.0 m.0 (scope_at words.now h) }
+pub(crate) fn leads_on(db: &Snapshot, from: ModuleId, m: ModuleId, h: usize) -> bool
+    requires { (from.0 < db.now.records.layout.modules) × ScopeFits (counts_in db.now.records.layout) (scope_at db.now.records.words.now h) }
+    ensures { result ≡ leads_on (snap_in db.now) from.0 m.0 (scope_at db.now.records.words.now h) }
 {
-    if is_module_entry(words, l, h, m) {
-        return seen(words, area, l, from, h);
+    if is_module_entry(&db.records, h, m) {
+        return seen(db, from, h);
     }
     false
 }
 
 // The entry with its head at a place, after the row number i: a row more, where it leads on to a module that has none.
 fn offer_entry(
-    words: &[u32],
+    records: &Records,
     area: &mut [u32],
-    l: Layout,
     from: ModuleId,
     i: usize,
     n: usize,
     h: usize,
 ) -> usize
-    requires { Reads words.now area.old l × (from.0 < l.modules) × ScopeFits (counts_in l) (scope_at words.now h)
-        × Run l.modules area.old n × (i < n) }
-    ensures { Grown l.modules area.old n area.new result
-        (with_entry (snap_of words.now area.old l) from.0 (run_at area.old n)
-        (way_at area.old i) (scope_at words.now h)) }
+    requires { Reads records.now.words.now area.old records.now.layout × (from.0 < records.now.layout.modules) × ScopeFits (counts_in records.now.layout) (scope_at records.now.words.now h)
+        × Run records.now.layout.modules area.old n × (i < n) }
+    ensures { Grown records.now.layout.modules area.old n area.new result
+        (with_entry (snap_by records.now area.old) from.0 (run_at area.old n)
+        (way_at area.old i) (scope_at records.now.words.now h)) }
 {
     let m = ModuleId(word(area, Row::BASE + Row::SIZE * i));
-    if leads_on(words, area, l, from, m, h) {
-        let target = first_of(words, l, scope_definition(words, h));
-        let name = scope_name(words, h);
+    let db = Snapshot {
+        records: *records,
+        area,
+    };
+    if leads_on(&db, from, m, h) {
+        let target = first_of(records, scope_definition(records.words, h));
+        let name = scope_name(records.words, h);
         let row = Row {
             target,
             link: i + 3,
             name: name.0,
             place: h,
         };
-        return offer(area, l.modules, n, row);
+        return offer(area, records.layout.modules, n, row);
     }
     n
 }
@@ -72,24 +70,23 @@ fn offer_entry(
 // The row number i of n is taken up: a row more for each module without one that a name more after it means.
 // The loop of `offer_scope` over another step: one of both would take a closure that writes the area, and its invariant as a clause.
 pub(crate) fn expand(
-    words: &[u32],
+    records: &Records,
     area: &mut [u32],
-    l: Layout,
     from: ModuleId,
     i: usize,
     n: usize,
 ) -> usize
-    requires { Reads words.now area.old l × (from.0 < l.modules) × Run l.modules area.old n × (i < n)
-        × Meant (snap_of words.now area.old l) from.0 (way_at area.old i) }
-    ensures { Grown l.modules area.old n area.new result
-        (added (snap_of words.now area.old l) from.0 (run_at area.old n)
-        (paths_after (snap_of words.now area.old l) from.0 types (way_at area.old i))) }
+    requires { Reads records.now.words.now area.old records.now.layout × (from.0 < records.now.layout.modules) × Run records.now.layout.modules area.old n × (i < n)
+        × Meant (snap_by records.now area.old) from.0 (way_at area.old i) }
+    ensures { Grown records.now.layout.modules area.old n area.new result
+        (added (snap_by records.now area.old) from.0 (run_at area.old n)
+        (paths_after (snap_by records.now area.old) from.0 types (way_at area.old i))) }
 {
-    let base = l.scope_base();
-    let scopes = l.scopes;
+    let base = records.layout.scope_base();
+    let scopes = records.layout.scopes;
     let mut count = n;
     for k in 0..scopes {
-        count = offer_entry(words, area, l, from, i, count, base + Size::SCOPE * k);
+        count = offer_entry(records, area, from, i, count, base + Size::SCOPE * k);
     }
     count
 }

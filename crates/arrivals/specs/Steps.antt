@@ -36,6 +36,7 @@ LeadsTo s from ns A n o (Some q) = Steps s from ns A n o q.link q.name q.at
 LeadsTo s from ns A n o None = o ≡ None
 
 -- the n rows of the area are a run
+-- (a clause: `named` and the number of rows are arguments of each call, so a type of both would be made at each)
 pub record Ready (b : Bool) (s : Snapshot) (from modules : ℕ) (A : List ℕ) (n : ℕ) : Type 0 where
   pub rows : Run modules A n
   pub same : run_at A n ≡ run b s from

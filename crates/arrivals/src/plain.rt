@@ -1,10 +1,10 @@
 //! The first plain name of an item that is no module.
-ghost use Rattle.std.specs.Prelude.{◌≡◌, List, ℕ, ◌^◌, ◌<◌};
+ghost use Rattle.std.specs.Prelude.{◌≡◌, List, ℕ, ◌<◌};
 ghost use Rattle.snapshot.specs.Records.{scope_at};
-ghost use Rattle.snapshot.specs.Layouts.{word_count, snap_of};
-ghost use Rattle.accept.specs.Post.{Reads};
+ghost use Rattle.snapshot.specs.Laid.{snap_by};
 ghost use Rattle.record_rules.specs.Stands.{counts_in};
 ghost use Rattle.accept.specs.Valid.{ScopeFits};
+ghost use Rattle.accept.specs.Opened.{snap_in};
 ghost use Rattle.tree_rules.specs.Modules.{map_no};
 ghost use Rattle.hir_def.specs.Entries.{entry_of};
 ghost use Rattle.hir_def.specs.Finds.{first_some};
@@ -14,6 +14,7 @@ ghost use Rattle.nameable.specs.Paths.{plain, means, scopes_from};
 ghost use Rattle.nameable.specs.Breadth.{is_item};
 ghost use Rattle.arrivals.specs.Steps.{is_plain_for, plain_in, plain_in_prelude, plain_entry};
 
+use accept::opened::Snapshot;
 use any_path::plain::{Reading, read_plain};
 use crate_graph::prelude_of;
 use hir_def::Item;
@@ -25,35 +26,29 @@ use seen_entries::entries::seen;
 use seen_entries::privacy::block_step;
 use snapshot::ids::{DefinitionId, ModuleId, Name, Namespace};
 use snapshot::kind::Size;
-use snapshot::layout::Layout;
 use snapshot::record::{prelude_target, scope_definition, scope_name, scope_ns};
+use snapshot::records::Records;
 
 // Whether the entry with its head at a place is for the item.
-fn is_entry_for(words: &[u32], l: Layout, h: usize, item: Item) -> bool
-    requires { word_count l < 2 ^ 32 }
-    ensures { (A : List ℕ) → result ≡ same_item (item_of (snap_of words.now A l) (scope_at words.now h).ns
-        (scope_at words.now h).definition) item }
+fn is_entry_for(records: &Records, h: usize, item: Item) -> bool
+    ensures { (A : List ℕ) → result ≡ same_item (item_of (snap_by records.now A) (scope_at records.now.words.now h).ns
+        (scope_at records.now.words.now h).definition) item }
 {
-    let ns = scope_ns(words, h);
-    same_item(item_of(words, l, ns, scope_definition(words, h)), item)
+    let ns = scope_ns(records.words, h);
+    same_item(
+        item_of(records, ns, scope_definition(records.words, h)),
+        item,
+    )
 }
 
 // Whether a plain name means the item, which is no module.
-fn means_item(
-    words: &[u32],
-    area: &[u32],
-    l: Layout,
-    from: ModuleId,
-    ns: Namespace,
-    d: DefinitionId,
-    name: Name,
-) -> bool
-    requires { Reads words.now area.now l × (from.0 < l.modules) }
-    ensures { result ≡ is_item (defined_item ns.0 d.0) (means (snap_of words.now area.now l) from.0
+fn means_item(db: &Snapshot, from: ModuleId, ns: Namespace, d: DefinitionId, name: Name) -> bool
+    requires { from.0 < db.now.records.layout.modules }
+    ensures { result ≡ is_item (defined_item ns.0 d.0) (means (snap_in db.now) from.0
         ns.0 (plain name.0)) }
 {
-    match read_plain(words, area, l, from, ns.0, name) {
-        Some(Reading::Scope(h)) => is_entry_for(words, l, h, Item::Def(ns, d)),
+    match read_plain(db, from, ns.0, name) {
+        Some(Reading::Scope(h)) => is_entry_for(&db.records, h, Item::Def(ns, d)),
         Some(Reading::Extern(_)) => false,
         None => false,
     }
@@ -61,96 +56,81 @@ fn means_item(
 
 // Whether the entry with its head at a place is a seen one of the module for the item, whose name alone means the item.
 fn is_plain_for(
-    words: &[u32],
-    area: &[u32],
-    l: Layout,
+    db: &Snapshot,
     from: ModuleId,
     m: ModuleId,
     ns: Namespace,
     d: DefinitionId,
     h: usize,
 ) -> bool
-    requires { Reads words.now area.now l × (from.0 < l.modules) × ScopeFits (counts_in l) (scope_at words.now h) }
-    ensures { result ≡ is_plain_for (snap_of words.now area.now l) from.0 m.0 (defined_item ns.0 d.0)
-        (scope_at words.now h) }
+    requires { (from.0 < db.now.records.layout.modules) × ScopeFits (counts_in db.now.records.layout) (scope_at db.now.records.words.now h) }
+    ensures { result ≡ is_plain_for (snap_in db.now) from.0 m.0 (defined_item ns.0 d.0)
+        (scope_at db.now.records.words.now h) }
 {
-    if is_for(words, l, h, m, Item::Def(ns, d)) {
-        if seen(words, area, l, from, h) {
-            return means_item(words, area, l, from, ns, d, scope_name(words, h));
+    if is_for(&db.records, h, m, Item::Def(ns, d)) {
+        if seen(db, from, h) {
+            return means_item(db, from, ns, d, scope_name(db.records.words, h));
         }
     }
     false
 }
 
-// The first such entry of the module.
+// The first such entry of the module: the call of `first_where` with a test, as in `item_scope::get`.
 fn plain_in(
-    words: &[u32],
-    area: &[u32],
-    l: Layout,
+    db: &Snapshot,
     from: ModuleId,
     m: ModuleId,
     ns: Namespace,
     d: DefinitionId,
 ) -> Option<usize>
-    requires { Reads words.now area.now l × (from.0 < l.modules) }
-    ensures { entry_of scope_at words.now result ≡ plain_in (snap_of words.now area.now l) from.0
+    requires { from.0 < db.now.records.layout.modules }
+    ensures { entry_of scope_at db.now.records.words.now result ≡ plain_in (snap_in db.now) from.0
         (defined_item ns.0 d.0) m.0 }
 {
-    let test = |h| is_plain_for(words, area, l, from, m, ns, d, h);
-    first_where(l.scope_base(), Size::SCOPE, l.scopes, test)
+    let test = |h| is_plain_for(db, from, m, ns, d, h);
+    first_where(
+        db.records.layout.scope_base(),
+        Size::SCOPE,
+        db.records.layout.scopes,
+        test,
+    )
 }
 
 // The first in the viewer's scopes.
-fn plain_around(
-    words: &[u32],
-    area: &[u32],
-    l: Layout,
-    from: ModuleId,
-    ns: Namespace,
-    d: DefinitionId,
-) -> Option<usize>
-    requires { Reads words.now area.now l × (from.0 < l.modules) }
-    ensures { entry_of scope_at words.now result ≡ first_some (plain_in (snap_of words.now area.now l)
-        from.0 (defined_item ns.0 d.0)) (scopes_from (snap_of words.now area.now l) from.0) }
+fn plain_around(db: &Snapshot, from: ModuleId, ns: Namespace, d: DefinitionId) -> Option<usize>
+    requires { from.0 < db.now.records.layout.modules }
+    ensures { entry_of scope_at db.now.records.words.now result ≡ first_some (plain_in (snap_in db.now)
+        from.0 (defined_item ns.0 d.0)) (scopes_from (snap_in db.now) from.0) }
 {
-    let find = |m| plain_in(words, area, l, from, m, ns, d);
-    let outward = |m| block_step(words, area, l, m);
+    let find = |m| plain_in(db, from, m, ns, d);
+    let outward = |m| block_step(db, m);
     nearest(from, find, outward)
 }
 
 // The first in the prelude of the viewer's map.
-fn plain_in_prelude(
-    words: &[u32],
-    area: &[u32],
-    l: Layout,
-    from: ModuleId,
-    ns: Namespace,
-    d: DefinitionId,
-) -> Option<usize>
-    requires { Reads words.now area.now l × (from.0 < l.modules) }
-    ensures { entry_of scope_at words.now result ≡ plain_in_prelude (snap_of words.now area.now l)
-        from.0 (defined_item ns.0 d.0) (prelude_of (snap_of words.now area.now l)
-        (map_no (snap_of words.now area.now l) from.0)) }
+fn plain_in_prelude(db: &Snapshot, from: ModuleId, ns: Namespace, d: DefinitionId) -> Option<usize>
+    requires { from.0 < db.now.records.layout.modules }
+    ensures { entry_of scope_at db.now.records.words.now result ≡ plain_in_prelude (snap_in db.now)
+        from.0 (defined_item ns.0 d.0) (prelude_of (snap_in db.now)
+        (map_no (snap_in db.now) from.0)) }
 {
-    let p = prelude_of(words, l, map(words, area, l, from))?;
-    plain_in(words, area, l, from, prelude_target(words, p), ns, d)
+    let p = prelude_of(&db.records, map(db, from))?;
+    plain_in(db, from, prelude_target(db.records.words, p), ns, d)
 }
 
 /// The entry by which a plain name means the item, which is no module.
 pub(crate) fn plain_entry(
-    words: &[u32],
-    area: &[u32],
-    l: Layout,
+    db: &Snapshot,
     from: ModuleId,
     ns: Namespace,
     d: DefinitionId,
 ) -> Option<usize>
-    requires { Reads words.now area.now l × (from.0 < l.modules) }
-    ensures { entry_of scope_at words.now result ≡ plain_entry (snap_of words.now area.now l)
+    requires { from.0 < db.now.records.layout.modules }
+    ensures { entry_of scope_at db.now.records.words.now result ≡ plain_entry (snap_in db.now)
         from.0 (defined_item ns.0 d.0) }
 {
-    if let Some(h) = plain_around(words, area, l, from, ns, d) {
+    if let Some(h) = plain_around(db, from, ns, d) {
         return Some(h);
     }
-    plain_in_prelude(words, area, l, from, ns, d)
+    plain_in_prelude(db, from, ns, d)
 }

@@ -1,21 +1,20 @@
 //! The row of a module, and the first row in whose module an item is seen.
 ghost use Rattle.std.specs.Prelude.{ℕ, ◌≤◌, ◌<◌};
 ghost use Rattle.snapshot.specs.Limits.{module_limit};
-ghost use Rattle.snapshot.specs.Records.{Snapshot};
-ghost use Rattle.snapshot.specs.Layouts.{snap_of};
-ghost use Rattle.accept.specs.Post.{Reads};
+ghost use Rattle.snapshot.specs.Records as lists;
 ghost use Rattle.accept.specs.Valid.{Each};
+ghost use Rattle.accept.specs.Opened.{snap_in};
 ghost use Rattle.hir_def.specs.Items.{types, ns_of};
 ghost use Rattle.nameable.specs.Breadth.{onward, first_to};
 ghost use Rattle.any_path.specs.Rows.{run_at, Run, Meant};
 ghost use Rattle.arrivals.specs.Steps.{way_of, LeadsTo};
 
 use crate::LastStep;
+use accept::opened::Snapshot;
 use any_path::rows::Row;
 use hir_def::Item;
 use seen_entries::lookups::entry_for;
 use snapshot::ids::ModuleId;
-use snapshot::layout::Layout;
 use snapshot::record::scope_name;
 use snapshot::words::word;
 
@@ -23,7 +22,7 @@ use snapshot::words::word;
 // Of the rows in the area n are used; the clauses of the run are stated over the area and n.
 pub(crate) fn row_of(area: &[u32], n: usize, m: ModuleId) -> Option<LastStep>
     requires { n ≤ module_limit }
-    ensures { (s : Snapshot) (from modules : ℕ) → Run modules area.now n
+    ensures { (s : lists.Snapshot) (from modules : ℕ) → Run modules area.now n
         → LeadsTo s from types area.now n (way_of m.0 (run_at area.now n)) result }
 {
     for i in 0..n {
@@ -40,24 +39,16 @@ pub(crate) fn row_of(area: &[u32], n: usize, m: ModuleId) -> Option<LastStep>
 }
 
 // One name more after the first of n rows whose module has a seen entry for the item.
-pub(crate) fn by_rows(
-    words: &[u32],
-    area: &[u32],
-    l: Layout,
-    from: ModuleId,
-    n: usize,
-    item: Item,
-) -> Option<LastStep>
-    requires { Reads words.now area.now l × (from.0 < l.modules) × (n ≤ module_limit)
-        × Each (Meant (snap_of words.now area.now l) from.0) (run_at area.now n) }
-    ensures { LeadsTo (snap_of words.now area.now l) from.0 (ns_of item) area.now n
-        (first_to (snap_of words.now area.now l) from.0 item
-        (onward (snap_of words.now area.now l) from.0 (ns_of item) (run_at area.now n))) result }
+pub(crate) fn by_rows(db: &Snapshot, from: ModuleId, n: usize, item: Item) -> Option<LastStep>
+    requires { (from.0 < db.now.records.layout.modules) × (n ≤ module_limit) × Each (Meant (snap_in db.now) from.0) (run_at db.now.area.now n) }
+    ensures { LeadsTo (snap_in db.now) from.0 (ns_of item) db.now.area.now n
+        (first_to (snap_in db.now) from.0 item
+        (onward (snap_in db.now) from.0 (ns_of item) (run_at db.now.area.now n))) result }
 {
     for i in 0..n {
-        let m = ModuleId(word(area, Row::BASE + Row::SIZE * i));
-        if let Some(h) = entry_for(words, area, l, from, m, item) {
-            let name = scope_name(words, h);
+        let m = ModuleId(word(db.area, Row::BASE + Row::SIZE * i));
+        if let Some(h) = entry_for(db, from, m, item) {
+            let name = scope_name(db.records.words, h);
             return Some(LastStep {
                 link: i + 3,
                 name: name.0,

@@ -49,6 +49,7 @@ abbrev pub layout_of : ℕ → List ℕ → Layout
 layout_of n C = layout_with (n - word_count (layout_with 0 C)) C
 
 -- the words W were accepted, C are the numbers that their check wrote, and the work area A has their tables
+-- (a clause and no type: the area is written between, and a value with this fact would have to be made anew after each write)
 pub record StillChecked (W A C : List ℕ) : Type 0 where
   pub layout : Layout
   pub reads : Reads W A layout

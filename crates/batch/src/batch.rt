@@ -5,7 +5,6 @@ ghost use Rattle.batch.specs.Batch.{Batch};
 use crate::each::answer_each;
 use answer::area::clear;
 use questions::fits::fits;
-use snapshot::ids::WordCount;
 use snapshot::refusal::Refusal;
 
 /// Answers up to 64 questions on the words of a snapshot, which are checked once, and writes their reports one after the other:
@@ -21,13 +20,13 @@ pub fn find_paths(
     ensures { Batch words.now area.old questions.now reports.old area.new
         reports.new (fault_number result) }
 {
-    if area.len() < WordCount::AREA {
+    let Some(front) = area.first_chunk_mut() else {
         return Err(Refusal::Area);
-    }
+    };
     if !fits(questions.len(), reports.len()) {
-        clear(&mut area[..WordCount::AREA]);
+        clear(front);
         return Err(Refusal::Batch);
     }
-    answer_each(words, &mut area[..WordCount::AREA], questions, reports);
+    answer_each(words, front, questions, reports);
     Ok(())
 }

@@ -12,19 +12,19 @@ use answer::area::clear;
 use checked::checked::report_on;
 use questions::question::question_of;
 use reports::report::{ReportWords, write_report};
+use snapshot::ids::Area;
 use snapshot::kind::Size;
 use snapshot::layout::Layout;
 
 /// Writes the report of each question on checked words, which stay so.
 pub fn report_each(
     words: &[u32],
-    area: &mut [u32],
+    area: &mut Area,
     c: Result<Layout, Refused>,
     questions: &[u32],
     reports: &mut [u32],
 )
-    requires { Judged words.now area.old c × (length area.old ≡ area_limit)
-        × (report_size * (length questions.now / question_size) ≤ length reports.old) }
+    requires { Judged words.now area.old c × (report_size * (length questions.now / question_size) ≤ length reports.old) }
     ensures reports_after { reports.new ≡ reports_to words.now questions.now reports.old }
     ensures judged { Judged words.now area.new c }
 {
@@ -38,8 +38,8 @@ pub fn report_each(
 }
 
 /// Checks the words, writes the report of each question, and clears the work area.
-pub fn answer_each(words: &[u32], area: &mut [u32], questions: &[u32], reports: &mut [u32])
-    requires { (length area.old ≡ area_limit) × (report_size * (length questions.now / question_size) ≤ length reports.old) }
+pub fn answer_each(words: &[u32], area: &mut Area, questions: &[u32], reports: &mut [u32])
+    requires { report_size * (length questions.now / question_size) ≤ length reports.old }
     ensures area_after { area.new ≡ zeros area_limit }
     ensures reports_after { reports.new ≡ reports_to words.now questions.now reports.old }
 {

@@ -7,6 +7,7 @@ ghost use Rattle.case_text.specs.Words.{digit_of, code_of, IsDigit, next_word, u
 use std::alloc::{AllocError, Global};
 
 // What a byte says.
+// Three cases; in an `Option<Option<u32>>` neither `None` would say which of star and gap it is.
 #[derive(Clone, Copy)]
 enum Mark {
     Digit(u32),
@@ -36,6 +37,7 @@ fn with_digit(word: Option<u32>, d: u32) -> u32
 }
 
 // Puts a word where there is room for it, and answers the place after it.
+// `n` is the place of the next word; so in `store` and `repeat_last`. The words are made once: a `push` to a Vec could fail at each.
 fn put(words: &mut [u32], n: usize, w: u32) -> usize
     ensures { read_to words.new result ≡ stored (read_to words.old n) (under_way (Some w)) 16 }
 {
@@ -47,6 +49,7 @@ fn put(words: &mut [u32], n: usize, w: u32) -> usize
 }
 
 // Stores a word that is whole.
+// `n` as in `put`.
 #[tactic(auto, using(crate::proofs::Laws::stored_nothing))]
 fn store(words: &mut [u32], n: usize, word: Option<u32>) -> usize
     ensures { read_to words.new result ≡ stored (read_to words.old n) (under_way word) 16 }
@@ -79,6 +82,7 @@ impl Repeat {
     }
 
     // Writes the words from a place on, as far as there is room.
+    // A word may be made of one that this loop wrote, and each is raised: `copy_within` does neither.
     fn copy_on(&self, words: &mut [u32], from: usize) -> usize
         ensures { read_to words.new result ≡ copied self.now.count self.now.back self.now.heads self.now.arguments (read_to words.old from) }
     {
@@ -99,6 +103,7 @@ impl Repeat {
 }
 
 // What a star asks for.
+// `n` as in `put`: the four words before it are read, and the next ones go over them.
 fn repeat_last(words: &mut [u32], n: usize) -> usize
     ensures { read_to words.new result ≡ repeated (read_to words.old n) 17 }
 {
@@ -162,6 +167,7 @@ mod tests {
         Ok(())
     }
 
+    // As the test above, of what has no room: each is a call and a comparison.
     #[test]
     fn no_more_words_than_room(rt: HostRuntime) -> Result<(), Fail> {
         let words = words_of(rt.alloc(), b"1f 2 3 ", 2)?;

@@ -43,20 +43,20 @@ pub record Passed (W A : List ℕ) (l : Layout) (x : FindPathCtx) (left : ℕ) (
   pub begun : Begun W A l x left
   pub held : Held left f
 
-pub lang_passed : {W A₀ A : List ℕ} {l : Layout} {x : FindPathCtx} {left : ℕ} {o a : Found} (item : Item) (n : ℕ) → Passed W A₀ l x left o
-    → Searched A₀ (in_lang (snap_of W A₀ l) x left item (out_of o) n (is_stable o.choice)) A a → length A ≡ length A₀ → Passed W A l x left a
-lang_passed {W} {A₀} {A} {l} {x} {left} {o} item n p d e =
+pub lang_passed : {W A₀ A : List ℕ} {l : Layout} {x : FindPathCtx} {left : ℕ} {o a : Found} {k : ℕ} (item : Item) (n : ℕ) → Passed W A₀ l x left o
+    → Searched A₀ (in_lang (snap_of W A₀ l) x left item (out_of o) n (is_stable o.choice)) A a → length A ≡ k → length A₀ ≡ k → Passed W A l x left a
+lang_passed {W} {A₀} {A} {l} {x} {left} {o} item n p d e h =
     record {
-      begun = begun_later p.begun d.tables e;
+      begun = begun_later p.begun d.tables (e ∙ sym h);
       held = subst (Held left) (sym d.same) (held_lang (snap_of W A₀ l) x left item (out_of o) n _ p.begun.some p.held);
     }
 
-pub deps_passed : {W A₀ A : List ℕ} {l : Layout} {x : FindPathCtx} {left : ℕ} {o a : Found} (item : Item) (ds : List Dependency)
+pub deps_passed : {W A₀ A : List ℕ} {l : Layout} {x : FindPathCtx} {left : ℕ} {o a : Found} {k : ℕ} (item : Item) (ds : List Dependency)
     → Passed W A₀ l x left o
-    → Searched A₀ (dependencies (snap_of W A₀ l) x left item (out_of o) ds) A a → length A ≡ length A₀ → Passed W A l x left a
-deps_passed {W} {A₀} {A} {l} {x} {left} {o} item ds p d e =
+    → Searched A₀ (dependencies (snap_of W A₀ l) x left item (out_of o) ds) A a → length A ≡ k → length A₀ ≡ k → Passed W A l x left a
+deps_passed {W} {A₀} {A} {l} {x} {left} {o} item ds p d e h =
     record {
-      begun = begun_later p.begun d.tables e;
+      begun = begun_later p.begun d.tables (e ∙ sym h);
       held = subst (Held left) (sym d.same) (held_deps (snap_of W A₀ l) x left item (out_of o) ds p.begun.some p.held);
     }
 

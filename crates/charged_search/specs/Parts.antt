@@ -46,12 +46,14 @@ module _ (s : Snapshot) (x : FindPathCtx) where
   in_lang left item o lang false = dependencies left item o (one_or_none (lang_of s x.from_crate.0 lang))
 
 -- a search with a length left can begin
+-- (a clause and no type: the area is written between, and a value with this fact would have to be made anew after each write)
 pub record Begun (W A : List ℕ) (l : Layout) (x : FindPathCtx) (left : ℕ) : Type 0 where
   pub ready : Prepared W A l x
   pub some : 0 < left
   pub limit : left ≤ path_limit
 
 -- what was found so far has no more names than the length left, and its tank stays in range
+-- (a clause: `Found` is a record of the definitions, which make one of any numbers; so with the bounds of a tank and of a choice)
 pub record Held (left : ℕ) (f : Found) : Type 0 where
   pub few : f.choice.count ≤ left
   pub tank : f.meter.fuel + f.meter.spent < 2 ^ 32

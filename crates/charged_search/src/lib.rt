@@ -5,11 +5,11 @@ ghost use Rattle.std.specs.Prelude.{◌≡◌, [], ◌+◌, ◌≤◌, ◌<◌, 
 ghost use Rattle.snapshot.specs.Ids.{plus_one};
 ghost use Rattle.snapshot.specs.Origins.{origin_number};
 ghost use Rattle.snapshot.specs.Limits.{path_limit};
-ghost use Rattle.snapshot.specs.Layouts.{snap_of};
 ghost use Rattle.snapshot.specs.Records.{import_at};
+ghost use Rattle.snapshot.specs.Laid.{snap_by};
 ghost use Rattle.record_rules.specs.Stands.{counts_in};
-ghost use Rattle.accept.specs.Post.{Reads};
 ghost use Rattle.accept.specs.Valid.{ImportFits};
+ghost use Rattle.accept.specs.Opened.{snap_in};
 ghost use Rattle.crate_graph.specs.Among.{among};
 ghost use Rattle.hir_def.specs.ImportMap.{import_info_for, is_hidden};
 ghost use Rattle.hir_def.specs.Finds.{select};
@@ -20,6 +20,7 @@ ghost use Rattle.find_path.specs.declared.Tank.{Tank};
 ghost use Rattle.find_path.specs.Conditions.{Prepared, Asked, Searched};
 ghost use Rattle.charged_search.specs.Parts.{out_of, modules, best_path, one_import, imports, dependencies, sysroot, in_lang, Begun, Held};
 
+use accept::opened::Snapshot;
 use crate_graph::{Which, lang_of, next_dependency};
 use find_path::{FindPathCtx, Found, Tank};
 use hir_def::Item;
@@ -32,35 +33,34 @@ use path_rules::choices::{length_left, nothing};
 use path_rules::context::charge;
 use path_rules::rules::module_rules;
 use search_parts::{is_stable, langs_for};
-use snapshot::ids::{Crate, CrateOrigin, ModuleId};
-use snapshot::layout::Layout;
+use snapshot::ids::{Area, Crate, CrateOrigin, ModuleId};
 use snapshot::record::{dependency_crate, import_container};
+use snapshot::records::Records;
 
 // Whether a home is in the crate.
-fn is_at(words: &[u32], area: &[u32], l: Layout, home: Option<ModuleId>, c: Crate) -> bool
-    requires { Reads words.now area.now l × (plus_one home ≤ l.modules) }
-    ensures { result ≡ is_at (snap_of words.now area.now l) (plus_one home) c.0 }
+fn is_at(db: &Snapshot, home: Option<ModuleId>, c: Crate) -> bool
+    requires { plus_one home ≤ db.now.records.layout.modules }
+    ensures { result ≡ is_at (snap_in db.now) (plus_one home) c.0 }
 {
     let Some(m) = home else {
         return false;
     };
-    let k = krate(words, area, l, m);
+    let k = krate(db, m);
     k.0 == c.0
 }
 
 /// The search for a module, where externs count: the rules, else the charged search. Length 0 finds no module.
 #[cycle(charged)]
 pub fn find_path_for_module(
-    words: &[u32],
-    area: &mut [u32],
-    l: Layout,
+    records: &Records,
+    area: &mut Area,
     x: FindPathCtx,
     left: usize,
     m: ModuleId,
     t: Tank,
 ) -> Found
-    requires { Prepared words.now area.old l x × (m.0 < l.modules) × (left ≤ path_limit) × (t.fuel + t.spent < 2 ^ 32) }
-    ensures { Searched area.old (search_module Tank from_tank (snap_of words.now area.old l) x left m.0 t)
+    requires { Prepared records.now.words.now area.old records.now.layout x × (m.0 < records.now.layout.modules) × (left ≤ path_limit) × (t.fuel + t.spent < 2 ^ 32) }
+    ensures { Searched area.old (search_module Tank from_tank (snap_by records.now area.old) x left m.0 t)
         area.new result }
 {
     if left == 0 {
@@ -70,29 +70,32 @@ pub fn find_path_for_module(
             meter: t,
         };
     }
-    let choice = module_rules(words, area, l, x, true, m);
+    let db = Snapshot {
+        records: *records,
+        area,
+    };
+    let choice = module_rules(&db, x, true, m);
     if choice.found {
         return Found {
             choice: choice,
             meter: t,
         };
     }
-    calculate_best_path(words, area, l, x, left, Item::Mod(m), t)
+    calculate_best_path(records, area, x, left, Item::Mod(m), t)
 }
 
 /// The only rule that charges: the local search in the viewer's crate, else the sysroot for a std item, else the dependencies.
 #[cycle(charged)]
 pub fn calculate_best_path(
-    words: &[u32],
-    area: &mut [u32],
-    l: Layout,
+    records: &Records,
+    area: &mut Area,
     x: FindPathCtx,
     left: usize,
     item: Item,
     t: Tank,
 ) -> Found
-    requires { Begun words.now area.old l x left × Asked l item × (t.fuel + t.spent < 2 ^ 32) }
-    ensures { Searched area.old (best_path (snap_of words.now area.old l) x left item t)
+    requires { Begun records.now.words.now area.old records.now.layout x left × Asked records.now.layout item × (t.fuel + t.spent < 2 ^ 32) }
+    ensures { Searched area.old (best_path (snap_by records.now area.old) x left item t)
         area.new result }
 {
     match charge(x, left, item, t) {
@@ -103,29 +106,32 @@ pub fn calculate_best_path(
                 meter: meter,
             }
         }
-        Ok(meter) => search_charged(words, area, l, x, left, item, meter),
+        Ok(meter) => search_charged(records, area, x, left, item, meter),
     }
 }
 
 // What follows a charge.
 #[cycle(charged)]
 fn search_charged(
-    words: &[u32],
-    area: &mut [u32],
-    l: Layout,
+    records: &Records,
+    area: &mut Area,
     x: FindPathCtx,
     left: usize,
     item: Item,
     t: Tank,
 ) -> Found
-    requires { Begun words.now area.old l x left × Asked l item × (t.fuel + t.spent < 2 ^ 32) }
-    ensures { Searched area.old (after_charge Tank from_tank (snap_of words.now area.old l) x
-        (best_local (snap_of words.now area.old l) x) (modules (snap_of words.now area.old l) x)
+    requires { Begun records.now.words.now area.old records.now.layout x left × Asked records.now.layout item × (t.fuel + t.spent < 2 ^ 32) }
+    ensures { Searched area.old (after_charge Tank from_tank (snap_by records.now area.old) x
+        (best_local (snap_by records.now area.old) x) (modules (snap_by records.now area.old) x)
         left item (go t)) area.new result }
 {
-    let home = home_of(words, l, item);
-    if is_at(words, area, l, home, x.from_crate) {
-        let choice = calculate_best_path_local(words, area, l, x, left, item);
+    let home = home_of(records, item);
+    let db = Snapshot {
+        records: *records,
+        area,
+    };
+    if is_at(&db, home, x.from_crate) {
+        let choice = calculate_best_path_local(records, area, x, left, item);
         return Found {
             choice: choice,
             meter: t,
@@ -137,109 +143,113 @@ fn search_charged(
         meter: t,
     };
     if x.is_std_item {
-        return find_in_sysroot(words, area, l, x, left, item, o);
+        return find_in_sysroot(records, area, x, left, item, o);
     }
-    find_in_deps(words, area, l, x, left, item, Which::All, o)
+    find_in_deps(records, area, x, left, item, Which::All, o)
 }
 
 // Core, alloc and std, until the choice is stable; then every dependency, those of the sysroot first.
 #[cycle(charged)]
 fn find_in_sysroot(
-    words: &[u32],
-    area: &mut [u32],
-    l: Layout,
+    records: &Records,
+    area: &mut Area,
     x: FindPathCtx,
     left: usize,
     item: Item,
     o: Found,
 ) -> Found
-    requires { Begun words.now area.old l x left × Held left o }
-    ensures { Searched area.old (sysroot (snap_of words.now area.old l) x left item (out_of o)
+    requires { Begun records.now.words.now area.old records.now.layout x left × Held left o }
+    ensures { Searched area.old (sysroot (snap_by records.now area.old) x left item (out_of o)
         (langs x.prefer_no_std) (is_stable o.choice)) area.new result }
 {
     let langs = langs_for(x.prefer_no_std);
-    let a = find_in_lang(words, area, l, x, left, item, langs.first, o);
-    let b = find_in_lang(words, area, l, x, left, item, langs.second, a);
-    let c = find_in_lang(words, area, l, x, left, item, langs.third, b);
-    find_in_rest(words, area, l, x, left, item, c)
+    let a = find_in_lang(records, area, x, left, item, langs.first, o);
+    let b = find_in_lang(records, area, x, left, item, langs.second, a);
+    let c = find_in_lang(records, area, x, left, item, langs.third, b);
+    find_in_rest(records, area, x, left, item, c)
 }
 
 // The crate of one language in the sysroot, unless the choice is stable.
 #[cycle(charged)]
 fn find_in_lang(
-    words: &[u32],
-    area: &mut [u32],
-    l: Layout,
+    records: &Records,
+    area: &mut Area,
     x: FindPathCtx,
     left: usize,
     item: Item,
     lang: CrateOrigin,
     o: Found,
 ) -> Found
-    requires { Begun words.now area.old l x left × Held left o }
-    ensures { Searched area.old (in_lang (snap_of words.now area.old l) x left item
+    requires { Begun records.now.words.now area.old records.now.layout x left × Held left o }
+    ensures { Searched area.old (in_lang (snap_by records.now area.old) x left item
         (out_of o) (origin_number lang) (is_stable o.choice)) area.new result }
 {
     let choice = o.choice;
     if is_stable(choice) {
         return o;
     }
-    let Some(h) = lang_of(words, l, x.from_crate, lang) else {
+    let Some(h) = lang_of(records, x.from_crate, lang.number()) else {
         return o;
     };
-    find_in_dep(words, area, l, x, left, item, dependency_crate(words, h), o)
+    find_in_dep(
+        records,
+        area,
+        x,
+        left,
+        item,
+        dependency_crate(records.words, h),
+        o,
+    )
 }
 
 // Every dependency, those of the sysroot first, unless the choice is stable.
 #[cycle(charged)]
 fn find_in_rest(
-    words: &[u32],
-    area: &mut [u32],
-    l: Layout,
+    records: &Records,
+    area: &mut Area,
     x: FindPathCtx,
     left: usize,
     item: Item,
     o: Found,
 ) -> Found
-    requires { Begun words.now area.old l x left × Held left o }
-    ensures { Searched area.old (sysroot (snap_of words.now area.old l) x left item
+    requires { Begun records.now.words.now area.old records.now.layout x left × Held left o }
+    ensures { Searched area.old (sysroot (snap_by records.now area.old) x left item
         (out_of o) [] (is_stable o.choice)) area.new result }
 {
     let choice = o.choice;
     if is_stable(choice) {
         return o;
     }
-    let a = find_in_deps(words, area, l, x, left, item, Which::Sysroot, o);
-    find_in_deps(words, area, l, x, left, item, Which::Others, a)
+    let a = find_in_deps(records, area, x, left, item, Which::Sysroot, o);
+    find_in_deps(records, area, x, left, item, Which::Others, a)
 }
 
 // The dependencies of one sort, in record order.
+// `while let`: each turn looks for the next one after the last; an iterator would be a type more, with `next_dependency` in it.
 #[cycle(charged)]
 fn find_in_deps(
-    words: &[u32],
-    area: &mut [u32],
-    l: Layout,
+    records: &Records,
+    area: &mut Area,
     x: FindPathCtx,
     left: usize,
     item: Item,
     which: Which,
     o: Found,
 ) -> Found
-    requires { Begun words.now area.old l x left × Held left o }
-    ensures { Searched area.old (dependencies (snap_of words.now area.old l) x left item
-        (out_of o) (select (among x.from_crate.0 which) (snap_of words.now area.old l).dependencies)) area.new result }
+    requires { Begun records.now.words.now area.old records.now.layout x left × Held left o }
+    ensures { Searched area.old (dependencies (snap_by records.now area.old) x left item
+        (out_of o) (select (among x.from_crate.0 which) (snap_by records.now area.old).dependencies)) area.new result }
 {
     let mut best = o;
     let mut k = 0;
-    while let Some(next) = next_dependency(words, l, k, x.from_crate, which) {
+    while let Some(next) = next_dependency(records, k, x.from_crate, which) {
         best = find_in_dep(
-            words,
+            records,
             area,
-            l,
             x,
             left,
             item,
-            dependency_crate(words, next.head),
+            dependency_crate(records.words, next.head),
             best,
         );
         k = next.number + 1;
@@ -248,25 +258,26 @@ fn find_in_deps(
 }
 
 // The imports of the item in a crate.
+// `while let`, as in `find_in_deps`, with `import_info_for`.
+// The loop of `find_in_deps` over other records; its step is a call of the cycle, and a closure for it would have the clause of that call.
 #[cycle(charged)]
 fn find_in_dep(
-    words: &[u32],
-    area: &mut [u32],
-    l: Layout,
+    records: &Records,
+    area: &mut Area,
     x: FindPathCtx,
     left: usize,
     item: Item,
     c: Crate,
     o: Found,
 ) -> Found
-    requires { Begun words.now area.old l x left × Held left o }
-    ensures { Searched area.old (imports (snap_of words.now area.old l) x left (out_of o)
-        (import_info_for (snap_of words.now area.old l) c.0 item)) area.new result }
+    requires { Begun records.now.words.now area.old records.now.layout x left × Held left o }
+    ensures { Searched area.old (imports (snap_by records.now area.old) x left (out_of o)
+        (import_info_for (snap_by records.now area.old) c.0 item)) area.new result }
 {
     let mut best = o;
     let mut k = 0;
-    while let Some(next) = import_info_for(words, l, k, c, item) {
-        best = find_import(words, area, l, x, left, next.head, best);
+    while let Some(next) = import_info_for(records, k, c, item) {
+        best = find_import(records, area, x, left, next.head, best);
         k = next.number + 1;
     }
     best
@@ -276,29 +287,32 @@ fn find_in_dep(
 // and charged, even where it is not allowed.
 #[cycle(charged)]
 fn find_import(
-    words: &[u32],
-    area: &mut [u32],
-    l: Layout,
+    records: &Records,
+    area: &mut Area,
     x: FindPathCtx,
     left: usize,
     h: usize,
     o: Found,
 ) -> Found
-    requires { Begun words.now area.old l x left × ((import_at words.now h).container < l.modules)
-        × ImportFits (counts_in l) (import_at words.now h) × Held left o }
-    ensures { Searched area.old (one_import (snap_of words.now area.old l) x left (out_of o)
-        (import_at words.now h) (is_hidden (import_at words.now h))) area.new result }
+    requires { Begun records.now.words.now area.old records.now.layout x left × ((import_at records.now.words.now h).container < records.now.layout.modules)
+        × ImportFits (counts_in records.now.layout) (import_at records.now.words.now h) × Held left o }
+    ensures { Searched area.old (one_import (snap_by records.now area.old) x left (out_of o)
+        (import_at records.now.words.now h) (is_hidden (import_at records.now.words.now h))) area.new result }
 {
-    if is_hidden(words, h) {
+    if is_hidden(records.words, h) {
         return o;
     }
     let best = o.choice;
     let t = o.meter;
     let n = length_left(left, best);
-    let r = find_path_for_module(words, area, l, x, n, import_container(words, h), t);
+    let r = find_path_for_module(records, area, x, n, import_container(records.words, h), t);
     let c = r.choice;
     let meter = r.meter;
-    let choice = offer_import(words, area, l, x, best, c, h);
+    let db = Snapshot {
+        records: *records,
+        area,
+    };
+    let choice = offer_import(&db, x, best, c, h);
     Found {
         choice: choice,
         meter: meter,

@@ -2,7 +2,7 @@
 use Prim.Native.Nat.{ℕ, ◌+◌, ◌*◌, ◌/◌, ◌%◌, ◌≤◌, ◌<◌, min}
 use mathlib.Core.Path.{◌≡◌, refl, sym, ◌∙◌, ap, subst}
 use mathlib.Core.List.{List, ◌++◌}
-use mathlib.Core.Bool.{Bool, true, false, ◌&&◌}
+use mathlib.Core.Bool.{Bool, true, false, ◌&&◌, and-false}
 use native.Mathlib.Omega.{arith}
 use borrow.Author.Tests.{eq-eqb, ne_eqb, lt-ltb, le-ltb, le-leb, lt-leb}
 use lib.Dec.{eqb}
@@ -60,10 +60,6 @@ pub asks_past : (B : List ℕ) (at : ℕ) → length B / 4 ≤ at → false ≡ 
 unfolding asks_at
 asks_past B at h = rw (asks_at, le-ltb _ _ h)
 
-and_false : (b : Bool) → (b && false) ≡ false
-and_false true = refl
-and_false false = refl
-
 -- the text of a refusal, by whether a question begins there
 module _ (B : List ℕ) (n at : ℕ) where
   pub text_asked : {old new : List ℕ} {r : ℕ} → eqb n form_refusal ≡ true → asks_at B at ≡ true → Put old 0 (asked_there at) new r
@@ -79,7 +75,7 @@ module _ (B : List ℕ) (n at : ℕ) where
   pub text_unasked : {old new : List ℕ} {r : ℕ} → asks_at B at ≡ false → Put old 0 (refusal n at) new r
       → Put old 0 (refused_text B n at) new r
   unfolding refused_text
-  text_unasked {old} {new} {r} t = subst (λ x. Put old 0 x new r) (rw (refused_text, t, and_false (eqb n form_refusal)))
+  text_unasked {old} {new} {r} t = subst (λ x. Put old 0 x new r) (rw (refused_text, t, and-false (eqb n form_refusal)))
 
 pub text_accepted : (B W A : List ℕ) (l : Layout)
     → bytes_of "accepted\n"

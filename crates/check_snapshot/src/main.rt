@@ -10,6 +10,7 @@ use std::io;
 use streams::{read_input, say_unread, write_output};
 use wording::text::TextBytes;
 
+// The buffers of `path_printer`, which writes line by line and needs another one: handed out by a function they would be a struct of four.
 fn main(rt: HostRuntime) -> io::Result<()> {
     let alloc = rt.alloc();
     // One byte more than an input may have.

@@ -30,6 +30,7 @@ fn asks_at(bytes: &[u8], place: usize) -> bool
 }
 
 // The text of a refusal.
+// It answers where the text ends; the refusal is what comes in.
 fn put_refused(bytes: &[u8], no: Refused, out: &mut [u8]) -> usize
     requires { text_limit ≤ length out.old }
     ensures { Put out.old 0 (refused_text bytes.now (refusal_number no.why) no.at) out.new result }
@@ -37,7 +38,7 @@ fn put_refused(bytes: &[u8], no: Refused, out: &mut [u8]) -> usize
     if no.why == Refusal::Form && asks_at(bytes, no.at) {
         return put_asked(out, no.at);
     }
-    put_refusal(out, no.why, no.at)
+    put_refusal(out, no.why.number() as u32, no.at)
 }
 
 /// Puts the text that answers for the bytes at the front, and answers its length; the bytes past it stay.

@@ -2,7 +2,7 @@
 use Prim.Native.Nat.{ℕ, zero, suc, ◌≤◌, ◌<◌}
 use mathlib.Core.Path.{◌≡◌, refl, sym, ◌∙◌, ap, subst}
 use mathlib.Core.List.{List}
-use mathlib.Core.Bool.{Bool, true, false, ◌&&◌, ◌||◌, not, false≢true}
+use mathlib.Core.Bool.{Bool, true, false, ◌&&◌, ◌||◌, not}
 use native.Mathlib.Omega.{arith}
 use borrow.Author.Tests.{lt-ltb, le-ltb, ltb-true, ltb-false}
 use lib.Dec.{eqb, ltb}
@@ -22,6 +22,7 @@ use Rattle.accept.specs.declared.check.Refused.{Refused}
 use Rattle.accept.proofs.Accepted.{by_test}
 use Rattle.accept.proofs.Tabled.{Kept}
 use Rattle.accept.proofs.Stable.{snap_stays, tables_stay}
+use Rattle.accept.proofs.Bools.{and_two}
 use Rattle.hir_def.specs.Items.{definition_of}
 use Rattle.find_path.specs.declared.Query.{Query}
 use Rattle.find_path.specs.declared.Question.{Question}
@@ -98,14 +99,10 @@ module _ (s : Snapshot) (q : Query) (D M : ℕ) (d : length s.definitions ≡ D)
   unfolding question_fault
   sound k h e t = let t' = rw e at t in rw (question_fault, d, m, h, t')
 
-  both : (a b : Bool) → (a && b) ≡ true → (a ≡ true) × (b ≡ true)
-  both true b e = (refl, e)
-  both false b e = absurd (false≢true e)
-
   pub fault_known : 0 ≡ question_fault s q → (q.definition.0 < D) × (q.from.0 < M)
   fault_known e =
       by_test (ltb q.definition.0 D && ltb q.from.0 M)
-      (λ t. let p = both _ _ t in (ltb-true _ _ p.0, ltb-true _ _ p.1))
+      (λ t. let p = and_two _ _ t in (ltb-true _ _ p.0, ltb-true _ _ p.1))
       (λ t. absurd (omega (arith, e, unknown t)))
 
 pub definitions_count : (W A : List ℕ) (l : Layout) → length (snap_of W A l).definitions ≡ l.definitions

@@ -9,35 +9,38 @@ use crate::found::report_in;
 use accept::check::Refused;
 use find_path::{Question, Report};
 use reports::report::refused;
+use snapshot::ids::Area;
 use snapshot::layout::Layout;
+use snapshot::records::Records;
 use snapshot::refusal::Refusal;
 
 // The report of a search, or why the question is refused: 20, 21, 22 and 46 come before what the check says, 23 and 24 after it.
 fn answered(
     words: &[u32],
-    area: &mut [u32],
+    area: &mut Area,
     c: Result<Layout, Refused>,
     question: Question,
 ) -> Result<Report, Refusal>
-    requires { Judged words.now area.old c × (length area.old ≡ area_limit) }
+    requires { Judged words.now area.old c }
     ensures { Questioned words.now question c area.new (told result) }
 {
     let q = question.query;
     call_fault(area.len(), q, question.fuel)?;
-    let l = c?;
-    question_fault(words, l, q)?;
-    Ok(report_in(words, area, l, q, question.fuel))
+    let layout = c?;
+    let records = Records { words, layout };
+    question_fault(&records, q)?;
+    Ok(report_in(&records, area, q, question.fuel))
 }
 
 /// The answer to a question on checked words, which stay so: the next question can follow.
 // `reach_on` has these arms over its own answer; `unwrap_or_else` with a trait for how a refusal is told would be longer.
 pub fn report_on(
     words: &[u32],
-    area: &mut [u32],
+    area: &mut Area,
     c: Result<Layout, Refused>,
     question: Question,
 ) -> Report
-    requires { Judged words.now area.old c × (length area.old ≡ area_limit) }
+    requires { Judged words.now area.old c }
     ensures { Questioned words.now question c area.new result }
 {
     match answered(words, area, c, question) {

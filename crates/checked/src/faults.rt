@@ -1,13 +1,13 @@
 //! What a caller may be refused for, in order.
-ghost use Rattle.std.specs.Prelude.{◌≡◌, List, ℕ, ◌^◌, ◌<◌};
+ghost use Rattle.std.specs.Prelude.{◌≡◌, List, ℕ, ◌<◌};
 ghost use Rattle.snapshot.specs.Refusals.{fault_number};
-ghost use Rattle.snapshot.specs.Layouts.{word_count, snap_of};
+ghost use Rattle.snapshot.specs.Laid.{snap_by};
 ghost use Rattle.find_path.specs.Report.{call_fault, question_fault};
 
 use find_path::Query;
-use hir_def::items::kind_of;
+use hir_def::items::known_kind_of;
 use snapshot::ids::{DefinitionKind, Fuel, Namespace, Options, PathLen, Prefix, WordCount};
-use snapshot::layout::Layout;
+use snapshot::records::Records;
 use snapshot::refusal::Refusal;
 
 /// The first fault that needs no snapshot: 20 a small work area, 21 too much fuel, 22 a field out of range, 46 a limit out
@@ -34,12 +34,12 @@ pub fn call_fault(area: usize, q: Query, fuel: usize) -> Result<(), Refusal>
 }
 
 /// The first fault that needs one: 23 no such definition or module, 24 a macro that is none.
-pub fn question_fault(words: &[u32], l: Layout, q: Query) -> Result<(), Refusal>
-    requires { word_count l < 2 ^ 32 }
-    ensures { (A : List ℕ) → fault_number result ≡ question_fault (snap_of words.now A l) q }
+pub fn question_fault(records: &Records, q: Query) -> Result<(), Refusal>
+    ensures { (A : List ℕ) → fault_number result ≡ question_fault (snap_by records.now A) q }
 {
-    let unknown = !((q.definition.0 < l.definitions) & (q.from.0 < l.modules));
-    let kind = kind_of(words, l, q.definition);
+    let unknown = !((q.definition.0 < records.layout.definitions)
+        & (q.from.0 < records.layout.modules));
+    let kind = known_kind_of(records, q.definition);
     let misfit = (q.ns == Namespace::MACROS) & (kind != Some(DefinitionKind::Macro));
     if unknown {
         return Err(Refusal::Unknown);

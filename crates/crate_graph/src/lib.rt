@@ -1,11 +1,11 @@
 //! Externs, preludes and dependencies: what the search asks of nameres.rs and of the crate graph.
 #![tactic(auto)]
 
-ghost use Rattle.std.specs.Prelude.{◌≡◌, List, ◌&&◌, ℕ, ◌^◌, ◌<◌};
-ghost use Rattle.snapshot.specs.Origins.{origin_number};
+ghost use Rattle.std.specs.Prelude.{◌≡◌, List, ◌&&◌, ℕ};
 ghost use Rattle.snapshot.specs.Sizes.{dependency_size};
 ghost use Rattle.snapshot.specs.Records.{dependency_at, prelude_at, extern_at};
-ghost use Rattle.snapshot.specs.Layouts.{word_count, dependency_base, snap_of};
+ghost use Rattle.snapshot.specs.Layouts.{dependency_base};
+ghost use Rattle.snapshot.specs.Laid.{snap_by};
 ghost use Rattle.hir_def.specs.Nameres.{is_extern, is_dependency, is_lang_sysroot, extern_of, prelude_of, lang_of};
 ghost use Rattle.hir_def.specs.Entries.{entry_of, NextOf};
 ghost use Rattle.crate_graph.specs.Among.{among};
@@ -13,13 +13,13 @@ ghost use Rattle.crate_graph.specs.Among.{among};
 use hir_def::Place;
 use hir_def::finds::{first_where, next_where};
 use hir_def::items::origin_of;
-use snapshot::ids::{Crate, CrateOrigin, ModuleId};
+use snapshot::ids::{Crate, ModuleId};
 use snapshot::kind::Size;
-use snapshot::layout::Layout;
 use snapshot::record::{
     dependency_crate, dependency_owner, dependency_sysroot, extern_owner, extern_target,
     prelude_map,
 };
+use snapshot::records::Records;
 
 // Whether the extern with its head at a place is one of the crate's, naming the module.
 fn is_extern(words: &[u32], h: usize, c: Crate, m: ModuleId) -> bool
@@ -31,14 +31,13 @@ fn is_extern(words: &[u32], h: usize, c: Crate, m: ModuleId) -> bool
 }
 
 /// The last of the crate's externs that names the module: they are read backwards.
-pub fn extern_of(words: &[u32], l: Layout, c: Crate, m: ModuleId) -> Option<usize>
-    requires { word_count l < 2 ^ 32 }
-    ensures { (A : List ℕ) → entry_of extern_at words.now result ≡ extern_of (snap_of words.now A l) c.0 m.0 }
+pub fn extern_of(records: &Records, c: Crate, m: ModuleId) -> Option<usize>
+    ensures { (A : List ℕ) → entry_of extern_at records.now.words.now result ≡ extern_of (snap_by records.now A) c.0 m.0 }
 {
-    let base = l.extern_base();
-    for k in (0..l.externs).rev() {
+    let base = records.layout.extern_base();
+    for k in (0..records.layout.externs).rev() {
         let h = base + Size::EXTERN * k;
-        if is_extern(words, h, c, m) {
+        if is_extern(records.words, h, c, m) {
             return Some(h);
         }
     }
@@ -46,15 +45,22 @@ pub fn extern_of(words: &[u32], l: Layout, c: Crate, m: ModuleId) -> Option<usiz
 }
 
 /// The prelude of a map.
-pub fn prelude_of(words: &[u32], l: Layout, map: usize) -> Option<usize>
-    requires { word_count l < 2 ^ 32 }
-    ensures { (A : List ℕ) → entry_of prelude_at words.now result ≡ prelude_of (snap_of words.now A l) map }
+// `first_where` with the base, the size, the number and the test of a kind, as the lookups of `item_scope`, `import_map`, `read_back`,
+// `seen_entries` and `arrivals` are: no more is left of any.
+pub fn prelude_of(records: &Records, map: usize) -> Option<usize>
+    ensures { (A : List ℕ) → entry_of prelude_at records.now.words.now result ≡ prelude_of (snap_by records.now A) map }
 {
-    let test = |h| prelude_map(words, h) == map;
-    first_where(l.prelude_base(), Size::PRELUDE, l.preludes, test)
+    let test = |h| prelude_map(records.words, h) == map;
+    first_where(
+        records.layout.prelude_base(),
+        Size::PRELUDE,
+        records.layout.preludes,
+        test,
+    )
 }
 
 /// Which dependencies of a crate: all, those that are in the sysroot, or the others.
+// Three cases, where an `Option<bool>` would not name them.
 #[derive(Clone, Copy)]
 pub enum Which {
     All,
@@ -67,54 +73,51 @@ fn is_among(words: &[u32], h: usize, c: Crate, which: Which) -> bool
     ensures { result ≡ among c.0 which (dependency_at words.now h) }
 {
     let owner = dependency_owner(words, h);
-    let inside = dependency_sysroot(words, h) == 1;
-    let its = match which {
+    if owner.0 != c.0 {
+        return false;
+    }
+    match which {
         Which::All => true,
-        Which::Sysroot => inside,
-        Which::Others => !inside,
-    };
-    (owner.0 == c.0) & its
+        Which::Sysroot => dependency_sysroot(words, h) == 1,
+        Which::Others => dependency_sysroot(words, h) != 1,
+    }
 }
 
 /// The next of these dependencies of the crate, from the dependency number k on.
-pub fn next_dependency(words: &[u32], l: Layout, k: usize, c: Crate, which: Which) -> Option<Place>
-    requires { word_count l < 2 ^ 32 }
-    ensures { NextOf (among c.0 which) dependency_at dependency_size words.now (dependency_base l) l.dependencies k result }
+pub fn next_dependency(records: &Records, k: usize, c: Crate, which: Which) -> Option<Place>
+    ensures { NextOf (among c.0 which) dependency_at dependency_size records.now.words.now (dependency_base records.now.layout) records.now.layout.dependencies k result }
 {
-    let test = |h| is_among(words, h, c, which);
+    let test = |h| is_among(records.words, h, c, which);
     next_where(
-        l.dependency_base(),
+        records.layout.dependency_base(),
         Size::DEPENDENCY,
-        l.dependencies,
+        records.layout.dependencies,
         k,
         test,
     )
 }
 
-fn number_of(origin: CrateOrigin) -> usize
-    ensures { result ≡ origin_number origin }
-{
-    origin as usize
-}
-
 // Whether the dependency with its head at a place is one of the crate's, in the sysroot, of that origin.
-fn is_lang_sysroot(words: &[u32], l: Layout, h: usize, c: Crate, lang: CrateOrigin) -> bool
-    requires { word_count l < 2 ^ 32 }
+fn is_lang_sysroot(records: &Records, h: usize, c: Crate, lang: usize) -> bool
     ensures { (A : List ℕ)
-        → result ≡ (is_dependency c.0 (dependency_at words.now h) && is_lang_sysroot (snap_of words.now A l) (origin_number lang)
-        (dependency_at words.now h)) }
+        → result ≡ (is_dependency c.0 (dependency_at records.now.words.now h) && is_lang_sysroot (snap_by records.now A) lang
+        (dependency_at records.now.words.now h)) }
 {
-    let owner = dependency_owner(words, h);
-    let inside = dependency_sysroot(words, h) == 1;
-    let origin = origin_of(words, l, dependency_crate(words, h));
-    (owner.0 == c.0) & (inside & (origin == number_of(lang)))
+    let owner = dependency_owner(records.words, h);
+    let inside = dependency_sysroot(records.words, h) == 1;
+    let origin = origin_of(records, dependency_crate(records.words, h));
+    (owner.0 == c.0) & (inside & (origin == lang))
 }
 
-/// The first of the crate's sysroot dependencies of that origin.
-pub fn lang_of(words: &[u32], l: Layout, c: Crate, lang: CrateOrigin) -> Option<usize>
-    requires { word_count l < 2 ^ 32 }
-    ensures { (A : List ℕ) → entry_of dependency_at words.now result ≡ lang_of (snap_of words.now A l) c.0 (origin_number lang) }
+/// The first of the crate's sysroot dependencies whose origin has that number.
+pub fn lang_of(records: &Records, c: Crate, lang: usize) -> Option<usize>
+    ensures { (A : List ℕ) → entry_of dependency_at records.now.words.now result ≡ lang_of (snap_by records.now A) c.0 lang }
 {
-    let test = |h| is_lang_sysroot(words, l, h, c, lang);
-    first_where(l.dependency_base(), Size::DEPENDENCY, l.dependencies, test)
+    let test = |h| is_lang_sysroot(records, h, c, lang);
+    first_where(
+        records.layout.dependency_base(),
+        Size::DEPENDENCY,
+        records.layout.dependencies,
+        test,
+    )
 }

@@ -9,6 +9,7 @@ use Rattle.find_path.specs.declared.FindPathCtx.{FindPathCtx}
 use Rattle.distances.specs.Distances.{distance, Bounds, Ruled}
 
 -- accepted words and the whole work area
+-- (a clause and no type: the area is written between, and a value with this fact would have to be made anew after each write)
 pub record Ready (W A : List ℕ) (l : Layout) : Type 0 where
   pub reads : Reads W A l
   pub area : length A ≡ area_limit

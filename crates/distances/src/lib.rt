@@ -6,7 +6,7 @@ ghost use Rattle.std.specs.Prelude.{◌≡◌, true, ℕ, ◌≤◌, ◌<◌, le
 ghost use Rattle.std.specs.Prelude.{Some};
 ghost use Rattle.snapshot.specs.Limits.{module_limit, area_limit};
 ghost use Rattle.snapshot.specs.Records.{Prelude, scope_at};
-ghost use Rattle.snapshot.specs.Layouts.{snap_of};
+ghost use Rattle.snapshot.specs.Laid.{snap_by};
 ghost use Rattle.record_rules.specs.Stands.{counts_in};
 ghost use Rattle.accept.specs.Valid.{Each, ScopeFits};
 ghost use Rattle.hir_def.specs.Items.{map_no};
@@ -14,6 +14,7 @@ ghost use Rattle.hir_def.specs.Nameres.{ancestor_maps, prelude_of};
 ghost use Rattle.distances.specs.Distances.{distance, Named, Stepped, is_keyword};
 ghost use Rattle.distances.specs.Post.{Ready, Numbered, Rooted, Marked, Lowers, Passed, Bounded};
 
+use accept::opened::Snapshot;
 use crate_graph::prelude_of;
 use find_path::FindPathCtx;
 use hir_def::Item;
@@ -21,10 +22,10 @@ use hir_def::items::item_of;
 use hir_def::modules::{block, crate_root, map, parent};
 use path_rules::rules::{keyword_rule, may_be_in_scope};
 use rule_lookups::is_importable;
-use snapshot::ids::ModuleId;
+use snapshot::ids::{Area, ModuleId};
 use snapshot::kind::Size;
-use snapshot::layout::Layout;
 use snapshot::record::{prelude_target, scope_definition, scope_ns, scope_owner};
+use snapshot::records::Records;
 use snapshot::table::Tables;
 use snapshot::words::word;
 
@@ -51,21 +52,25 @@ fn first_number(m: ModuleId, root: ModuleId) -> usize
 }
 
 // Every module is far, but for the roots of crates.
-fn set_roots(words: &[u32], area: &mut [u32], l: Layout)
-    requires { Ready words.now area.old l }
-    ensures { Rooted words.now area.old l l.modules area.new }
+fn set_roots(records: &Records, area: &mut [u32])
+    requires { Ready records.now.words.now area.old records.now.layout }
+    ensures { Rooted records.now.words.now area.old records.now.layout records.now.layout.modules area.new }
 {
-    let count = l.modules;
+    let count = records.layout.modules;
     for m in 0..count {
-        let root = crate_root(words, area, l, ModuleId(m));
+        let db = Snapshot {
+            records: *records,
+            area,
+        };
+        let root = crate_root(&db, ModuleId(m));
         let d = first_number(ModuleId(m), root);
         area[Distances::AT + m] = d as u32;
     }
 }
 
 // A module that a rule may answer for.
-fn mark(area: &mut [u32], m: ModuleId)
-    requires { (length area.old ≡ area_limit) × (m.0 < module_limit) }
+fn mark(area: &mut Area, m: ModuleId)
+    requires { m.0 < module_limit }
     ensures { Lowers area.old area.new × (distance area.new m.0 ≤ 1) }
 {
     let at = Distances::AT + m.0;
@@ -76,16 +81,20 @@ fn mark(area: &mut [u32], m: ModuleId)
 }
 
 // The module of the entry with its head at a place, if it is one of c's.
-fn mark_entry(words: &[u32], area: &mut [u32], l: Layout, c: ModuleId, h: usize)
-    requires { Ready words.now area.old l × ScopeFits (counts_in l) (scope_at words.now h) }
-    ensures { Lowers area.old area.new × Named (snap_of words.now area.old l)
-        (distance area.new) c.0 (scope_at words.now h) }
+fn mark_entry(records: &Records, area: &mut Area, c: ModuleId, h: usize)
+    requires { Ready records.now.words.now area.old records.now.layout × ScopeFits (counts_in records.now.layout) (scope_at records.now.words.now h) }
+    ensures { Lowers area.old area.new × Named (snap_by records.now area.old)
+        (distance area.new) c.0 (scope_at records.now.words.now h) }
 {
-    let owner = scope_owner(words, h);
+    let owner = scope_owner(records.words, h);
     if owner.0 != c.0 {
         return;
     }
-    let item = item_of(words, l, scope_ns(words, h), scope_definition(words, h));
+    let item = item_of(
+        records,
+        scope_ns(records.words, h),
+        scope_definition(records.words, h),
+    );
     let Item::Mod(m) = item else {
         return;
     };
@@ -93,30 +102,35 @@ fn mark_entry(words: &[u32], area: &mut [u32], l: Layout, c: ModuleId, h: usize)
 }
 
 // The modules of the entries of c.
-fn mark_scope(words: &[u32], area: &mut [u32], l: Layout, c: ModuleId)
-    requires { Ready words.now area.old l }
+fn mark_scope(records: &Records, area: &mut Area, c: ModuleId)
+    requires { Ready records.now.words.now area.old records.now.layout }
     ensures { Lowers area.old area.new
-        × Each (Named (snap_of words.now area.old l) (distance area.new) c.0)
-        (snap_of words.now area.old l).scopes }
+        × Each (Named (snap_by records.now area.old) (distance area.new) c.0)
+        (snap_by records.now area.old).scopes }
 {
-    let base = l.scope_base();
-    let count = l.scopes;
+    let base = records.layout.scope_base();
+    let count = records.layout.scopes;
     for k in 0..count {
-        mark_entry(words, area, l, c, base + Size::SCOPE * k);
+        mark_entry(records, area, c, base + Size::SCOPE * k);
     }
 }
 
 // The modules in the scope of the viewing module and around its blocks.
-fn mark_scopes(words: &[u32], area: &mut [u32], l: Layout, from: ModuleId)
-    requires { Ready words.now area.old l × (from.0 < l.modules) }
+// `loop`: it climbs out of blocks, and ends where there is none around.
+fn mark_scopes(records: &Records, area: &mut Area, from: ModuleId)
+    requires { Ready records.now.words.now area.old records.now.layout × (from.0 < records.now.layout.modules) }
     ensures { Lowers area.old area.new
-        × Each (λ a. Each (Named (snap_of words.now area.old l) (distance area.new) a)
-        (snap_of words.now area.old l).scopes) (ancestor_maps (snap_of words.now area.old l) from.0) }
+        × Each (λ a. Each (Named (snap_by records.now area.old) (distance area.new) a)
+        (snap_by records.now area.old).scopes) (ancestor_maps (snap_by records.now area.old) from.0) }
 {
     let mut m = from;
     loop {
-        mark_scope(words, area, l, m);
-        let Some(b) = block(words, area, l, m) else {
+        mark_scope(records, area, m);
+        let db = Snapshot {
+            records: *records,
+            area,
+        };
+        let Some(b) = block(&db, m) else {
             return;
         };
         m = b;
@@ -124,28 +138,36 @@ fn mark_scopes(words: &[u32], area: &mut [u32], l: Layout, from: ModuleId)
 }
 
 // The modules in the prelude of the viewing module.
-fn mark_prelude(words: &[u32], area: &mut [u32], l: Layout, from: ModuleId)
-    requires { Ready words.now area.old l × (from.0 < l.modules) }
+fn mark_prelude(records: &Records, area: &mut Area, from: ModuleId)
+    requires { Ready records.now.words.now area.old records.now.layout × (from.0 < records.now.layout.modules) }
     ensures { Lowers area.old area.new
-        × ((p : Prelude) → prelude_of (snap_of words.now area.old l)
-        (map_no (snap_of words.now area.old l) from.0) ≡ Some p
-        → Each (Named (snap_of words.now area.old l) (distance area.new) p.target)
-        (snap_of words.now area.old l).scopes) }
+        × ((p : Prelude) → prelude_of (snap_by records.now area.old)
+        (map_no (snap_by records.now area.old) from.0) ≡ Some p
+        → Each (Named (snap_by records.now area.old) (distance area.new) p.target)
+        (snap_by records.now area.old).scopes) }
 {
-    let p = prelude_of(words, l, map(words, area, l, from));
+    let db = Snapshot {
+        records: *records,
+        area,
+    };
+    let p = prelude_of(records, map(&db, from));
     let Some(h) = p else {
         return;
     };
-    mark_scope(words, area, l, prelude_target(words, h));
+    mark_scope(records, area, prelude_target(records.words, h));
 }
 
 // A module, if it has a keyword.
-fn mark_keyword(words: &[u32], area: &mut [u32], l: Layout, x: FindPathCtx, m: ModuleId)
-    requires { Ready words.now area.old l × (x.from.0 < l.modules) × (m.0 < l.modules) }
+fn mark_keyword(records: &Records, area: &mut Area, x: FindPathCtx, m: ModuleId)
+    requires { Ready records.now.words.now area.old records.now.layout × (x.from.0 < records.now.layout.modules) × (m.0 < records.now.layout.modules) }
     ensures { Lowers area.old area.new
-        × (is_keyword (snap_of words.now area.old l) x m.0 ≡ true → distance area.new m.0 ≤ 1) }
+        × (is_keyword (snap_by records.now area.old) x m.0 ≡ true → distance area.new m.0 ≤ 1) }
 {
-    let c = keyword_rule(words, area, l, x, m);
+    let db = Snapshot {
+        records: *records,
+        area,
+    };
+    let c = keyword_rule(&db, x, m);
     if !c.found {
         return;
     }
@@ -153,30 +175,38 @@ fn mark_keyword(words: &[u32], area: &mut [u32], l: Layout, x: FindPathCtx, m: M
 }
 
 // The viewing module and its parent.
-fn mark_keywords(words: &[u32], area: &mut [u32], l: Layout, x: FindPathCtx)
-    requires { Ready words.now area.old l × (x.from.0 < l.modules) }
+fn mark_keywords(records: &Records, area: &mut Area, x: FindPathCtx)
+    requires { Ready records.now.words.now area.old records.now.layout × (x.from.0 < records.now.layout.modules) }
     ensures { Lowers area.old area.new
-        × ((m : ℕ) → is_keyword (snap_of words.now area.old l) x m ≡ true → distance area.new m ≤ 1) }
+        × ((m : ℕ) → is_keyword (snap_by records.now area.old) x m ≡ true → distance area.new m ≤ 1) }
 {
-    mark_keyword(words, area, l, x, x.from);
-    let Some(p) = parent(words, area, l, x.from) else {
+    mark_keyword(records, area, x, x.from);
+    let db = Snapshot {
+        records: *records,
+        area,
+    };
+    let Some(p) = parent(&db, x.from) else {
         return;
     };
-    mark_keyword(words, area, l, x, p);
+    mark_keyword(records, area, x, p);
 }
 
 // The step of the entry with its head at a place; whether it made a number smaller.
-fn relax_entry(words: &[u32], area: &mut [u32], l: Layout, x: FindPathCtx, h: usize) -> bool
-    requires { Numbered words.now area.old l × (x.from.0 < l.modules) × ScopeFits (counts_in l) (scope_at words.now h) }
-    ensures { Passed area.old (λ d. Stepped (snap_of words.now area.old l) x d
-        (scope_at words.now h)) area.new result }
+fn relax_entry(records: &Records, area: &mut [u32], x: FindPathCtx, h: usize) -> bool
+    requires { Numbered records.now.words.now area.old records.now.layout × (x.from.0 < records.now.layout.modules) × ScopeFits (counts_in records.now.layout) (scope_at records.now.words.now h) }
+    ensures { Passed area.old (λ d. Stepped (snap_by records.now area.old) x d
+        (scope_at records.now.words.now h)) area.new result }
 {
-    let owner = scope_owner(words, h);
+    let owner = scope_owner(records.words, h);
     let d = word(area, Distances::AT + owner.0) + 1;
     if Distances::FAR <= d {
         return false;
     }
-    let item = item_of(words, l, scope_ns(words, h), scope_definition(words, h));
+    let item = item_of(
+        records,
+        scope_ns(records.words, h),
+        scope_definition(records.words, h),
+    );
     let Item::Mod(m) = item else {
         return false;
     };
@@ -184,7 +214,11 @@ fn relax_entry(words: &[u32], area: &mut [u32], l: Layout, x: FindPathCtx, h: us
     if word(area, at) <= d {
         return false;
     }
-    if !is_importable(words, area, l, x, h) {
+    let db = Snapshot {
+        records: *records,
+        area,
+    };
+    if !is_importable(&db, x, h) {
         return false;
     }
     area[at] = d as u32;
@@ -192,43 +226,44 @@ fn relax_entry(words: &[u32], area: &mut [u32], l: Layout, x: FindPathCtx, h: us
 }
 
 // The steps of all entries; whether one made a number smaller.
-fn relax(words: &[u32], area: &mut [u32], l: Layout, x: FindPathCtx) -> bool
-    requires { Numbered words.now area.old l × (x.from.0 < l.modules) }
-    ensures { Passed area.old (λ d. Each (Stepped (snap_of words.now area.old l) x d)
-        (snap_of words.now area.old l).scopes) area.new result }
+fn relax(records: &Records, area: &mut [u32], x: FindPathCtx) -> bool
+    requires { Numbered records.now.words.now area.old records.now.layout × (x.from.0 < records.now.layout.modules) }
+    ensures { Passed area.old (λ d. Each (Stepped (snap_by records.now area.old) x d)
+        (snap_by records.now area.old).scopes) area.new result }
 {
-    let base = l.scope_base();
-    let count = l.scopes;
+    let base = records.layout.scope_base();
+    let count = records.layout.scopes;
     let mut changed = false;
     for k in 0..count {
-        let r = relax_entry(words, area, l, x, base + Size::SCOPE * k);
+        let r = relax_entry(records, area, x, base + Size::SCOPE * k);
         changed = changed | r;
     }
     changed
 }
 
 // The modules that a rule may answer for.
-fn mark_rules(words: &[u32], area: &mut [u32], l: Layout, x: FindPathCtx)
-    requires { Ready words.now area.old l × (x.from.0 < l.modules) }
-    ensures { Marked words.now area.old l x area.new }
+fn mark_rules(records: &Records, area: &mut Area, x: FindPathCtx)
+    requires { Ready records.now.words.now area.old records.now.layout × (x.from.0 < records.now.layout.modules) }
+    ensures { Marked records.now.words.now area.old records.now.layout x area.new }
 {
-    set_roots(words, area, l);
-    mark_keywords(words, area, l, x);
-    mark_prelude(words, area, l, x.from);
+    set_roots(records, area);
+    mark_keywords(records, area, x);
+    mark_prelude(records, area, x.from);
     if !may_be_in_scope(x) {
         return;
     }
-    mark_scopes(words, area, l, x.from);
+    mark_scopes(records, area, x.from);
 }
 
 /// Sets the numbers of all modules.
-pub fn set_distances(words: &[u32], area: &mut [u32], l: Layout, x: FindPathCtx)
-    requires { Ready words.now area.old l × (x.from.0 < l.modules) }
-    ensures { Bounded words.now area.old l x area.new }
+// `loop`: a pass more until one changes nothing; their number is not known before.
+pub fn set_distances(records: &Records, area: &mut Area, x: FindPathCtx)
+    requires { Ready records.now.words.now area.old records.now.layout × (x.from.0 < records.now.layout.modules) }
+    ensures { Bounded records.now.words.now area.old records.now.layout x area.new }
 {
-    mark_rules(words, area, l, x);
+    mark_rules(records, area, x);
     loop {
-        if !relax(words, area, l, x) {
+        if !relax(records, area, x) {
             return;
         }
     }

@@ -13,7 +13,7 @@ use accept::check::check;
 use answer::area::clear_front;
 use scope_edits::entries::{add_fault, record_of};
 use scope_edits::moves::{insert, remove};
-use scope_edits::places::{entry_place, scopes_end};
+use scope_edits::places::{EntryKey, entry_place, scopes_end};
 use snapshot::ids::WordCount;
 use snapshot::kind::Size;
 use snapshot::layout::Layout;
@@ -109,18 +109,12 @@ pub fn add_entry(
 }
 
 // Removes an entry from an accepted snapshot; answers the new count.
-fn remove_accepted(
-    words: &mut [u32],
-    count: usize,
-    owner: usize,
-    ns: usize,
-    name: usize,
-) -> Result<usize, Refusal>
+fn remove_accepted(words: &mut [u32], count: usize, key: EntryKey) -> Result<usize, Refusal>
     requires { (count ≤ length words.old) × ((s : Snapshot) × (verdict (take count words.old) ≡ accept s)) }
     ensures { Edits words.old count (edit_by (take count words.old) (length words.old)
-        (removing owner ns name) (verdict (take count words.old))) words.new (told count result) }
+        (removing key.owner key.ns key.name) (verdict (take count words.old))) words.new (told count result) }
 {
-    let at = entry_place(&words[..count], owner, ns, name);
+    let at = entry_place(&words[..count], key);
     if count <= at {
         return Err(Refusal::Entry);
     }
@@ -133,28 +127,19 @@ fn remove_checked(
     words: &mut [u32],
     count: usize,
     area: &mut [u32],
-    owner: usize,
-    ns: usize,
-    name: usize,
+    key: EntryKey,
 ) -> Result<usize, Refusal>
-    ensures { EditsIn words.old count area.old (removing owner ns name) words.new area.new
+    ensures { EditsIn words.old count area.old (removing key.owner key.ns key.name) words.new area.new
         (told count result) }
 {
     opened(words, count, area)?;
-    remove_accepted(words, count, owner, ns, name)
+    remove_accepted(words, count, key)
 }
 
-/// Removes the entry of a module, a namespace and a name from the snapshot in the first words, so many: the words after its record move
+/// Removes the entry of a key from the snapshot in the first words, so many: the words after its record move
 /// down, and all past the new end are zero. Answers as `add_entry` does, with 47 for a name that isn't there.
-pub fn remove_entry(
-    words: &mut [u32],
-    count: usize,
-    area: &mut [u32],
-    owner: usize,
-    ns: usize,
-    name: usize,
-) -> Edited
-    ensures { EditsIn words.old count area.old (removing owner ns name) words.new area.new result }
+pub fn remove_entry(words: &mut [u32], count: usize, area: &mut [u32], key: EntryKey) -> Edited
+    ensures { EditsIn words.old count area.old (removing key.owner key.ns key.name) words.new area.new result }
 {
-    told(count, remove_checked(words, count, area, owner, ns, name))
+    told(count, remove_checked(words, count, area, key))
 }

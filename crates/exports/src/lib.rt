@@ -49,6 +49,7 @@ use new_numbers::read::{new_crate, new_definition, new_map, new_module, new_name
 use questions::question::question_of;
 use reach_answer::find_reach;
 use reports::report::ReportWords;
+use scope_edits::places::EntryKey;
 use snapshot::ids::{Crate, Name};
 use snapshot::kind::Size;
 use snapshot::refusal::Refusal;
@@ -117,6 +118,7 @@ pub extern "C" fn kelumavor_check(
 
 /// Copies the text of a name to the front, where there is room for all of it, and answers its length. The tables are the work
 /// area as the check of these words left it, or its first words, one for each name.
+// `name` is a number of the snapshot and no length: C passes each slice with its own; so in `kelumavor_is_raw` and `kelumavor_new_name`.
 #[unsafe(no_mangle)]
 pub extern "C" fn kelumavor_name(
     words: &[u32],
@@ -142,6 +144,7 @@ pub extern "C" fn kelumavor_name(
 
 /// Whether an edition writes a name with `r#` in front of its text: the edition of the viewing module's crate. The tables are those of
 /// `kelumavor_name`.
+// `name` as in `kelumavor_name`.
 #[unsafe(no_mangle)]
 pub extern "C" fn kelumavor_is_raw(
     words: &[u32],
@@ -316,7 +319,8 @@ pub extern "C" fn kelumavor_remove_entry(
     ensures { EditsIn words.old count.old area.old (removing owner ns name) words.new
         area.new (record { number = result; count = count.new }) }
 {
-    let r = remove_entry(words, *count, area, owner, ns, name);
+    let key = EntryKey { owner, ns, name };
+    let r = remove_entry(words, *count, area, key);
     *count = r.count;
     r.number
 }
@@ -369,6 +373,7 @@ pub extern "C" fn kelumavor_join_numbers(first: &[u32], second: &[u32], area: &m
 }
 
 /// The number that a name of the second snapshot has in the two joined, from the area that `kelumavor_join_numbers` left.
+// `name` as in `kelumavor_name`.
 #[unsafe(no_mangle)]
 pub extern "C" fn kelumavor_new_name(area: &[u32], name: usize) -> usize
     ensures { NewName area.now name result }

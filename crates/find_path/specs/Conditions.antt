@@ -18,6 +18,7 @@ use Rattle.find_path.specs.Meters.{Charged, go, stop}
 use Rattle.find_path.specs.Charged.{Out, found_of}
 
 -- accepted words with their tables, a viewing module that is there, the whole work area, and a limit in range
+-- (a clause and no type: the area is written between, and a value with this fact would have to be made anew after each write)
 pub record Prepared (W A : List ℕ) (l : Layout) (x : FindPathCtx) : Type 0 where
   pub reads : Reads W A l
   pub from : x.from.0 < l.modules

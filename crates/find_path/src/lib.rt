@@ -6,6 +6,9 @@ use snapshot::ids::{Crate, DefinitionId, ModuleId};
 
 // What is set once for a question, after the Rust's `FindPathCtx` and its config; `fresh` is old names last; `own` is the module asked for, +1,
 // or 0 where the item is no module; `max_len` is the length left at the start; `prefix` is the question's number.
+// The flags are the settings of the Rust's context: each is a value that rules test, and none says whether another field holds.
+// `prefix` is a number as it came: the faults have refused the others, and an enum would need a default that is never met.
+// `own` is compared with what a charge looks for, which is a word of the report for C.
 #[derive(Clone, Copy)]
 pub struct FindPathCtx {
     pub prefix: usize,
@@ -25,6 +28,7 @@ pub struct FindPathCtx {
 
 // The fuel left, the charges so far, and whether a charge found no fuel. Of the first that found none: the length left, and the module
 // that it looked for, +1, or 0 for the question's own item or its enum.
+// `empty`, `left` and `sought` are words of the report for C, 0 where no charge failed: an `Option` of them would be taken apart again there.
 #[derive(Clone, Copy)]
 pub struct Tank {
     pub fuel: usize,
@@ -61,6 +65,7 @@ pub struct Question {
 }
 
 /// Outcomes of a report.
+// The C interface: four numbers of a report, whose path stands in fields beside them; an `Option` or a `Result` has two cases.
 #[derive(Clone, Copy, PartialEq, Eq)]
 pub enum Outcome {
     Found,

@@ -7,7 +7,7 @@ use lib.Dec.{eqb}
 use borrow.Author.Tests.{eqb-true, eqb-false, not-true, not-false}
 use Rattle.std.specs.Prelude.{Option, Some, None}
 use Rattle.std.specs.Option.{option_eq}
-use Rattle.std.proofs.lemmas.Option.{none-some, same_Some}
+use Rattle.std.proofs.lemmas.Option.{none-some}
 use Rattle.snapshot.specs.DefinitionKinds.{definition_kind_number, definition_kind_of}
 use Rattle.snapshot.specs.contracts.ids.DefinitionKindPartialEq.TheImpl.{eq-value}
 use Rattle.snapshot.specs.declared.ids.DefinitionKind.{DefinitionKind}
@@ -68,9 +68,6 @@ kept Other = refl
 kept Macro = refl
 
 -- of another kind, or of none
-
-pub kind_other : (k : DefinitionKind) (n : ℕ) {j : DefinitionKind} → definition_kind_of n ≡ Some j → (j ≡ k → ⊥) → n ≡ definition_kind_number k → ⊥
-kind_other k n e h z = h (same_Some _ _ (sym e ∙ ap definition_kind_of z ∙ kept k))
 
 pub kind_none : (k : DefinitionKind) (n : ℕ) → definition_kind_of n ≡ None → n ≡ definition_kind_number k → ⊥
 kind_none k n e z = none-some k (sym e ∙ ap definition_kind_of z ∙ kept k)

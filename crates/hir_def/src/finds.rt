@@ -47,6 +47,7 @@ pub fn first_where<F: Fn(usize) -> bool>(
 }
 
 /// The first entry that is found in a module or, outwards, in those around it.
+// `loop`: it climbs outwards, and ends where something is found or nothing is around.
 pub fn nearest<F: Fn(ModuleId) -> Option<usize>, S: Fn(ModuleId) -> Option<ModuleId>>(
     from: ModuleId,
     find: F,

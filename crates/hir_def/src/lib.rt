@@ -9,6 +9,7 @@ pub mod visibility;
 use snapshot::ids::{DefinitionId, ModuleId, Namespace};
 
 // An item: a module in the types namespace, or a namespace and another definition.
+// Two kinds of things, neither of them an error: a `Result` would call one so.
 #[derive(Clone, Copy)]
 pub enum Item {
     Mod(ModuleId),

@@ -2,7 +2,7 @@
 use Prim.Native.Nat.{ℕ, zero, suc, ◌+◌, ◌-◌, ◌≤◌, ◌<◌}
 use mathlib.Core.Path.{◌≡◌, refl, sym, ◌∙◌, ap}
 use mathlib.Core.List.{List, [], ◌∷◌}
-use mathlib.Core.Bool.{Bool, true, false, ◌&&◌}
+use mathlib.Core.Bool.{Bool, true, false, ◌&&◌, and-false}
 use native.Mathlib.Omega.{arith}
 use borrow.Author.Tests.{eq-eqb, ne_eqb, leb-true, leb-false}
 use lib.Dec.{eqb, leb}
@@ -89,11 +89,7 @@ select_both {A} p q (x ∷ xs) =
     (λ t. ap (select p) (select_hit q x xs t) ∙ by_test (p x)
     (λ u. select_hit p x (select q xs) u ∙ ap (λ r. x ∷ r) rest ∙ sym (select_hit both x xs (rw (u, t))))
     (λ u. select_miss p x (select q xs) u ∙ rest ∙ sym (select_miss both x xs (rw u))))
-    (λ t. ap (select p) (select_miss q x xs t) ∙ rest ∙ sym (select_miss both x xs (rw t (none (p x)))))
-  where
-    none : (b : Bool) → (b && false) ≡ false
-    none true = refl
-    none false = refl
+    (λ t. ap (select p) (select_miss q x xs t) ∙ rest ∙ sym (select_miss both x xs (rw t (and-false (p x)))))
 
 -- what every element of a list has, every element of it sorted has
 

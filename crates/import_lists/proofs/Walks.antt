@@ -28,7 +28,7 @@ use Rattle.hir_def.specs.Items.{module_kind, definition_of, root_of, own_map}
 use Rattle.hir_def.proofs.Fits.{module_known}
 use Rattle.import_rules.specs.Collect.{entries_of, piled, visits, modules_from}
 use Rattle.import_order.specs.Lists.{Ready, waiting}
-use Rattle.import_order.proofs.Visits.{room, entries_few, visits_same, waiting_all, length_piled}
+use Rattle.import_order.proofs.Visits.{entries_few, visits_same, waiting_all, length_piled}
 use Rattle.import_lists.specs.Threads.{rest, public_in, entry_of, Threaded}
 use Rattle.import_lists.specs.Walks.{marks_base, order_base, pile_base, down_from, pile_at, order_at, seen_at, turns_at, walk_at, Pushed, Walking}
 use Rattle.import_lists.specs.Walks.{Turned, Walked}
@@ -287,6 +287,10 @@ module _ {W A : List ℕ} {l : Layout} {n k : ℕ} (t : ℕ) (w : Walking W A l 
 
   pub turn_mark : m < 512
   turn_mark = let a = turn_known in let b = modules_few in omega arith
+
+  -- its mark is a word of the area
+  pub turn_place : {marks : ℕ} → marks ≡ marks_base l → (marks + m < 16384) × (length A ≡ 16384)
+  turn_place e = (omega (arith, turn_mark, few_words w.threaded.ready, e), w.threaded.ready.size)
 
   met : (b : Bool) → not (eqb (get_or A (marks_base l + m) 0) 0) ≡ b → any (eqb m) (seen_at A l k) ≡ b
   met b e = any_down (eqb m) (λ i. get_or A (order_base l + i) 0) k ∙ sym (w.marked.same m turn_mark) ∙ e

@@ -8,22 +8,23 @@ ghost use Rattle.import_lists.specs.Threads.{entry_of, member_of, Gathered, Thre
 
 use chains::chain::{clear, link};
 use import_order::sort::{Lists, sort};
+use snapshot::ids::Area;
 use snapshot::kind::Size;
-use snapshot::layout::Layout;
 use snapshot::record::{member_parent, scope_owner, scope_visibility};
+use snapshot::records::Records;
 use snapshot::words::word;
 
 // Leaves the heads of the public entries of all modules in the work area, in record order, and answers how many there are.
-fn gather(words: &[u32], area: &mut [u32], l: Layout) -> usize
-    requires { Ready words.now area.old l }
-    ensures { Gathered words.now area.old l area.new result }
+fn gather(records: &Records, area: &mut [u32]) -> usize
+    requires { Ready records.now.words.now area.old records.now.layout }
+    ensures { Gathered records.now.words.now area.old records.now.layout area.new result }
 {
-    let base = l.scope_base();
-    let count = l.scopes;
+    let base = records.layout.scope_base();
+    let count = records.layout.scopes;
     let mut n = 0;
     for k in 0..count {
         let at = base + Size::SCOPE * k;
-        if scope_visibility(words, at) == 0 {
+        if scope_visibility(records.words, at) == 0 {
             area[Lists::ENTRIES + n] = at as u32;
             n += 1;
         }
@@ -33,8 +34,8 @@ fn gather(words: &[u32], area: &mut [u32], l: Layout) -> usize
 
 // Threads the entries by module, the last first.
 // The heads stand in the area before the threads that this writes, so their n is a number and no slice of its own.
-fn thread_entries(words: &[u32], area: &mut [u32], n: usize)
-    requires area_len { (length area.old ≡ area_limit) × (entries_room + n ≤ heads_room) }
+fn thread_entries(words: &[u32], area: &mut Area, n: usize)
+    requires area_len { entries_room + n ≤ heads_room }
     requires by_index { ((b : ℕ) → b < module_limit → get_or area.old (heads_room + b) 0 ≡ 0)
         × ((j : ℕ) → j < n → (entry_of words.now area.old n j).owner < module_limit) }
     ensures { Threads module_limit heads_room spare_room (λ j. (entry_of words.now area.old n j).owner) n
@@ -48,31 +49,31 @@ fn thread_entries(words: &[u32], area: &mut [u32], n: usize)
 }
 
 // Threads the members by parent, the last first.
-fn thread_members(words: &[u32], area: &mut [u32], l: Layout)
-    requires area_len { (length area.old ≡ area_limit) × (member_links_room + l.members ≤ area_limit) × (word_count l ≤ word_limit) }
+fn thread_members(records: &Records, area: &mut Area)
+    requires area_len { (member_links_room + records.now.layout.members ≤ area_limit) × (word_count records.now.layout ≤ word_limit) }
     requires by_index { ((b : ℕ) → b < definition_limit → get_or area.old (member_heads_room + b) 0 ≡ 0)
-        × ((j : ℕ) → j < l.members → (member_of words.now l j).parent < definition_limit) }
-    ensures { Threads definition_limit member_heads_room member_links_room (λ j. (member_of words.now l j).parent)
-        l.members area.old area.new }
+        × ((j : ℕ) → j < records.now.layout.members → (member_of records.now.words.now records.now.layout j).parent < definition_limit) }
+    ensures { Threads definition_limit member_heads_room member_links_room (λ j. (member_of records.now.words.now records.now.layout j).parent)
+        records.now.layout.members area.old area.new }
 {
-    let base = l.member_base();
-    let count = l.members;
+    let base = records.layout.member_base();
+    let count = records.layout.members;
     for j in 0..count {
-        let d = member_parent(words, base + Size::MEMBER * (count - 1 - j));
+        let d = member_parent(records.words, base + Size::MEMBER * (count - 1 - j));
         link(area, Lists::MEMBER_HEADS, Lists::MEMBER_LINKS, d.0, j);
     }
 }
 
 /// Threads the public entries, in order, and the members; answers how many entries there are.
-pub fn thread(words: &[u32], area: &mut [u32], l: Layout) -> usize
-    requires { Ready words.now area.old l }
-    ensures { Threaded words.now area.new l result
+pub fn thread(records: &Records, area: &mut Area) -> usize
+    requires { Ready records.now.words.now area.old records.now.layout }
+    ensures { Threaded records.now.words.now area.new records.now.layout result
         × ((i : ℕ) → i < entries_room → get_or area.new i 0 ≡ get_or area.old i 0) }
 {
-    let n = gather(words, area, l);
-    sort(words, area, l, Lists::ENTRIES, n);
+    let n = gather(records, area);
+    sort(records, area, Lists::ENTRIES, n);
     clear(area, Lists::HEADS, Lists::MEMBER_LINKS);
-    thread_entries(words, area, n);
-    thread_members(words, area, l);
+    thread_entries(records.words, area, n);
+    thread_members(records, area);
     n
 }

@@ -1,24 +1,25 @@
 //! The import records of a crate, written to a target or only counted: one walk for both.
 //! The target is words that C lends, in a library without a heap: no Vec to push to, so each function answers the place after its words.
+//! Target, place and flag are three parameters: of a struct that holds the target each function would promise too that its loan is still the same.
 //! `write` stays a bool: `Space` and `Wrote` are stated over it, and an enum of two variants would be turned into it in each clause.
 ghost use Rattle.std.specs.Prelude.{ℕ, ◌≡◌, ◌+◌, ◌<◌, ◌≤◌, [], ◌∷◌};
 ghost use Rattle.snapshot.specs.Limits.{module_limit};
 ghost use Rattle.snapshot.specs.MemberKinds.{member_kind_of};
 ghost use Rattle.snapshot.specs.Records.{scope_at, member_at};
-ghost use Rattle.snapshot.specs.Layouts.{snap_of};
 ghost use Rattle.accept.specs.Valid.{Each};
+ghost use Rattle.accept.specs.Opened.{snap_in};
 ghost use Rattle.import_rules.specs.Collect.{member_ns, member_import, entries_of, imports_of, imports_in, imports_over};
 ghost use Rattle.import_lists.specs.Threads.{Threaded};
 ghost use Rattle.import_lists.specs.Walks.{order_at};
 ghost use Rattle.import_lists.specs.Writes.{new_import, Bounded, Space, Wrote, kept_imports, members_of, Listed};
 
 use crate::walk::order_base;
+use accept::opened::Snapshot;
 use import_order::sort::Lists;
 use snapshot::ids::{Crate, DefinitionId, MemberKind, ModuleId, Name, Namespace};
 use snapshot::kind::Size;
-use snapshot::layout::Layout;
 use snapshot::record::{
-    member_bits, member_definition, member_kind, member_name, scope_bits, scope_definition,
+    known_member_kind, member_bits, member_definition, member_name, scope_bits, scope_definition,
     scope_name, scope_ns, scope_owner,
 };
 use snapshot::words::word;
@@ -75,7 +76,7 @@ fn put_member(
     ensures { Wrote write at (kept_imports c.0 (scope_at words.now entry) (member_at words.now member ∷ []))
         target.old target.new result }
 {
-    let kind = member_kind(words, member);
+    let kind = known_member_kind(words, member);
     if kind == Some(MemberKind::TypeAlias) {
         return at;
     }
@@ -88,63 +89,59 @@ fn put_member(
 }
 
 // Puts the members of an entry's definition, in record order.
+// `while`: it follows links, so the next place is read; so in `put_module`.
 fn put_members(
-    words: &[u32],
-    area: &[u32],
-    l: Layout,
+    db: &Snapshot,
     target: &mut [u32],
     at: usize,
     write: bool,
     c: Crate,
     entry: usize,
 ) -> usize
-    requires listed { Listed words.now area.now l c.0 (scope_at words.now entry) }
-    requires space { Space write at (members_of (snap_of words.now area.now l) c.0 (scope_at words.now entry)) target.old }
-    ensures { Wrote write at (members_of (snap_of words.now area.now l) c.0 (scope_at words.now entry))
+    requires listed { Listed db.now.records.words.now db.now.area.now db.now.records.layout c.0 (scope_at db.now.records.words.now entry) }
+    requires space { Space write at (members_of (snap_in db.now) c.0 (scope_at db.now.records.words.now entry)) target.old }
+    ensures { Wrote write at (members_of (snap_in db.now) c.0 (scope_at db.now.records.words.now entry))
         target.old target.new result }
 {
-    let d = scope_definition(words, entry);
-    let base = l.member_base();
+    let d = scope_definition(db.records.words, entry);
+    let base = db.records.layout.member_base();
     let mut t = at;
-    let mut k = word(area, Lists::MEMBER_HEADS + d.0);
+    let mut k = word(db.area, Lists::MEMBER_HEADS + d.0);
     while k != 0 {
-        let member = base + Size::MEMBER * (l.members - k);
-        t = put_member(words, target, t, write, c, entry, member);
-        k = word(area, Lists::MEMBER_LINKS + (k - 1));
+        let member = base + Size::MEMBER * (db.records.layout.members - k);
+        t = put_member(db.records.words, target, t, write, c, entry, member);
+        k = word(db.area, Lists::MEMBER_LINKS + (k - 1));
     }
     t
 }
 
 // Puts an entry after the members of its definition.
 fn put_entry(
-    words: &[u32],
-    area: &[u32],
-    l: Layout,
+    db: &Snapshot,
     target: &mut [u32],
     at: usize,
     write: bool,
     c: Crate,
     entry: usize,
 ) -> usize
-    requires listed { Listed words.now area.now l c.0 (scope_at words.now entry) }
-    requires space { Space write at (imports_of (snap_of words.now area.now l) c.0 (scope_at words.now entry)) target.old }
-    ensures { Wrote write at (imports_of (snap_of words.now area.now l) c.0 (scope_at words.now entry))
+    requires listed { Listed db.now.records.words.now db.now.area.now db.now.records.layout c.0 (scope_at db.now.records.words.now entry) }
+    requires space { Space write at (imports_of (snap_in db.now) c.0 (scope_at db.now.records.words.now entry)) target.old }
+    ensures { Wrote write at (imports_of (snap_in db.now) c.0 (scope_at db.now.records.words.now entry))
         target.old target.new result }
 {
-    let t = put_members(words, area, l, target, at, write, c, entry);
-    let ns = scope_ns(words, entry);
-    let d = scope_definition(words, entry);
-    let name = scope_name(words, entry);
-    let m = scope_owner(words, entry);
-    let bits = scope_bits(words, entry);
+    let t = put_members(db, target, at, write, c, entry);
+    let ns = scope_ns(db.records.words, entry);
+    let d = scope_definition(db.records.words, entry);
+    let name = scope_name(db.records.words, entry);
+    let m = scope_owner(db.records.words, entry);
+    let bits = scope_bits(db.records.words, entry);
     put_import(target, t, write, c, ns, d, name, m, bits)
 }
 
 // Puts the public entries of a module.
+// `while`, as in `put_members`.
 fn put_module(
-    words: &[u32],
-    area: &[u32],
-    l: Layout,
+    db: &Snapshot,
     n: usize,
     target: &mut [u32],
     at: usize,
@@ -152,27 +149,25 @@ fn put_module(
     c: Crate,
     m: ModuleId,
 ) -> usize
-    requires threaded { Threaded words.now area.now l n × (c.0 < l.crates) × (m.0 < module_limit) }
-    requires space { Space write at (imports_in (snap_of words.now area.now l) c.0 (entries_of (snap_of words.now area.now l) m.0))
+    requires threaded { Threaded db.now.records.words.now db.now.area.now db.now.records.layout n × (c.0 < db.now.records.layout.crates) × (m.0 < module_limit) }
+    requires space { Space write at (imports_in (snap_in db.now) c.0 (entries_of (snap_in db.now) m.0))
         target.old }
-    ensures { Wrote write at (imports_in (snap_of words.now area.now l) c.0
-        (entries_of (snap_of words.now area.now l) m.0)) target.old target.new result }
+    ensures { Wrote write at (imports_in (snap_in db.now) c.0
+        (entries_of (snap_in db.now) m.0)) target.old target.new result }
 {
     let mut t = at;
-    let mut k = word(area, Lists::HEADS + m.0);
+    let mut k = word(db.area, Lists::HEADS + m.0);
     while k != 0 {
-        let entry = word(area, Lists::ENTRIES + (n - k));
-        t = put_entry(words, area, l, target, t, write, c, entry);
-        k = word(area, Lists::SPARE + (k - 1));
+        let entry = word(db.area, Lists::ENTRIES + (n - k));
+        t = put_entry(db, target, t, write, c, entry);
+        k = word(db.area, Lists::SPARE + (k - 1));
     }
     t
 }
 
 /// Puts the imports of the modules in order, and answers the place after them.
 pub fn put_modules(
-    words: &[u32],
-    area: &[u32],
-    l: Layout,
+    db: &Snapshot,
     n: usize,
     order: usize,
     target: &mut [u32],
@@ -180,17 +175,17 @@ pub fn put_modules(
     write: bool,
     c: Crate,
 ) -> usize
-    requires threaded { Threaded words.now area.now l n × (c.0 < l.crates) × (order ≤ l.scopes + 1)
-        × Each (λ m. m < l.modules) (order_at area.now l order) }
-    requires space { Space write at (imports_over (snap_of words.now area.now l) c.0 (order_at area.now l order)) target.old }
-    ensures { Wrote write at (imports_over (snap_of words.now area.now l) c.0 (order_at area.now l order))
+    requires threaded { Threaded db.now.records.words.now db.now.area.now db.now.records.layout n × (c.0 < db.now.records.layout.crates) × (order ≤ db.now.records.layout.scopes + 1)
+        × Each (λ m. m < db.now.records.layout.modules) (order_at db.now.area.now db.now.records.layout order) }
+    requires space { Space write at (imports_over (snap_in db.now) c.0 (order_at db.now.area.now db.now.records.layout order)) target.old }
+    ensures { Wrote write at (imports_over (snap_in db.now) c.0 (order_at db.now.area.now db.now.records.layout order))
         target.old target.new result }
 {
-    let base = order_base(l);
+    let base = order_base(db.records.layout);
     let mut t = at;
     for i in 0..order {
-        let m = ModuleId(word(area, base + i));
-        t = put_module(words, area, l, n, target, t, write, c, m);
+        let m = ModuleId(word(db.area, base + i));
+        t = put_module(db, n, target, t, write, c, m);
     }
     t
 }

@@ -1,10 +1,11 @@
 //! The import map of a crate, after import_map.rs.
 #![tactic(auto)]
 
-ghost use Rattle.std.specs.Prelude.{◌≡◌, List, ℕ, ◌^◌, ◌<◌};
+ghost use Rattle.std.specs.Prelude.{◌≡◌, List, ℕ};
 ghost use Rattle.snapshot.specs.Sizes.{import_size};
 ghost use Rattle.snapshot.specs.Records.{import_at};
-ghost use Rattle.snapshot.specs.Layouts.{word_count, import_base, snap_of};
+ghost use Rattle.snapshot.specs.Layouts.{import_base};
+ghost use Rattle.snapshot.specs.Laid.{snap_by};
 ghost use Rattle.hir_def.specs.ImportMap.{is_import, is_hidden, is_unstable};
 ghost use Rattle.hir_def.specs.Entries.{NextOf};
 
@@ -13,32 +14,36 @@ use hir_def::items::{item_of, same_item};
 use hir_def::{Item, Place};
 use snapshot::ids::Crate;
 use snapshot::kind::Size;
-use snapshot::layout::Layout;
 use snapshot::record::{import_bits, import_definition, import_ns, import_owner};
+use snapshot::records::Records;
 
 // Whether the import with its head at a place is one of the crate's, of the item.
 // An import's owner is a crate and an entry's a module, at other offsets: `item_scope::is_for` has this shape over other readers.
-fn is_import(words: &[u32], l: Layout, h: usize, c: Crate, item: Item) -> bool
-    requires { word_count l < 2 ^ 32 }
-    ensures { (A : List ℕ) → result ≡ is_import (snap_of words.now A l) c.0 item (import_at words.now h) }
+fn is_import(records: &Records, h: usize, c: Crate, item: Item) -> bool
+    ensures { (A : List ℕ) → result ≡ is_import (snap_by records.now A) c.0 item (import_at records.now.words.now h) }
 {
-    let owner = import_owner(words, h);
+    let owner = import_owner(records.words, h);
     if owner.0 != c.0 {
         return false;
     }
-    let ns = import_ns(words, h);
-    let d = import_definition(words, h);
-    same_item(item_of(words, l, ns, d), item)
+    let ns = import_ns(records.words, h);
+    let d = import_definition(records.words, h);
+    same_item(item_of(records, ns, d), item)
 }
 
 /// The next of the crate's imports of the item, from the import number k on.
-pub fn import_info_for(words: &[u32], l: Layout, k: usize, c: Crate, item: Item) -> Option<Place>
-    requires { word_count l < 2 ^ 32 }
-    ensures { (A : List ℕ) → NextOf (is_import (snap_of words.now A l) c.0 item) import_at import_size
-        words.now (import_base l) l.imports k result }
+pub fn import_info_for(records: &Records, k: usize, c: Crate, item: Item) -> Option<Place>
+    ensures { (A : List ℕ) → NextOf (is_import (snap_by records.now A) c.0 item) import_at import_size
+        records.now.words.now (import_base records.now.layout) records.now.layout.imports k result }
 {
-    let test = |h| is_import(words, l, h, c, item);
-    next_where(l.import_base(), Size::IMPORT, l.imports, k, test)
+    let test = |h| is_import(records, h, c, item);
+    next_where(
+        records.layout.import_base(),
+        Size::IMPORT,
+        records.layout.imports,
+        k,
+        test,
+    )
 }
 
 /// Whether the import with its head at a place is hidden.

@@ -2,7 +2,7 @@
 use Prim.Native.Nat.{ℕ, ◌+◌, ◌*◌, ◌≤◌, ◌<◌}
 use mathlib.Core.Path.{◌≡◌, refl, sym, ◌∙◌, ap₂}
 use mathlib.Core.List.{List, [], ◌∷◌}
-use mathlib.Core.Bool.{Bool, true, false, ◌&&◌, ◌||◌, not, true≢false}
+use mathlib.Core.Bool.{Bool, true, false, ◌&&◌, ◌||◌, not, true≢false, or-true, and-false}
 use native.Mathlib.Omega.{arith}
 use native.Mathlib.Numerals.{add-one}
 use borrow.Author.Tests.{eq-eqb, ne_eqb, eqb-true, eqb-false, lt-ltb, le-ltb, ltb-true, ltb-false}
@@ -71,11 +71,7 @@ module _ (a b : List ℕ) (n m i : ℕ) (ha : n ≤ 3 * length a) (hb : m ≤ 3 
 pub text_never : (a : List ℕ) → text_before a a ≡ false
 unfolding text_before
 text_never [] = refl
-text_never (x ∷ xs) = rw (text_before, le-ltb x x (omega arith), text_never xs) (both (eqb x x))
-  where
-    both : (b : Bool) → (b && false) ≡ false
-    both true = refl
-    both false = refl
+text_never (x ∷ xs) = rw (text_before, le-ltb x x (omega arith), text_never xs) (and-false (eqb x x))
 
 -- a longer text stands before another by its head, or by what follows
 head_less : (x y : ℕ) (xs ys : List ℕ) → x < y → text_before (x ∷ xs) (y ∷ ys) ≡ true
@@ -138,11 +134,7 @@ key_text : (a b : List ℕ) (m n : ℕ) → text_before a b ≡ true → key_bef
 key_text a b m n h = rw h
 
 key_number : (a b : List ℕ) (m n : ℕ) → text_before b a ≡ false → m < n → key_before a m b n ≡ true
-key_number a b m n h g = rw (h, lt-ltb m n g) (either (text_before a b))
-  where
-    either : (t : Bool) → (t || true) ≡ true
-    either true = refl
-    either false = refl
+key_number a b m n h g = rw (h, lt-ltb m n g) (or-true (text_before a b))
 
 -- what a key that stands before another has
 by_key : {C : Type 0} (a b : List ℕ) (m n : ℕ) → key_before a m b n ≡ true → (text_before a b ≡ true → C) → (text_before b a ≡ false → m < n → C) → C

@@ -36,6 +36,7 @@ pub record Runs (A B : List ℕ) (from to : ℕ) : Type 0 where
   pub above : (i : ℕ) → to ≤ i → i < heads_room → get_or B i 0 ≡ get_or A i 0
 
 -- checked words, with a whole work area
+-- (a clause and no type: the area is written between, and a value with this fact would have to be made anew after each write)
 pub record Ready (W A : List ℕ) (l : Layout) : Type 0 where
   pub reads : Reads W A l
   pub size : length A ≡ area_limit

@@ -1,29 +1,27 @@
 //! The order of a module's entries: by text, then types, values, macros.
 ghost use Rattle.std.specs.Prelude.{◌≡◌};
 ghost use Rattle.snapshot.specs.Records.{scope_at};
-ghost use Rattle.snapshot.specs.Layouts.{snap_of};
-ghost use Rattle.accept.specs.Post.{Reads};
+ghost use Rattle.accept.specs.Opened.{snap_in};
 ghost use Rattle.import_rules.specs.Collect.{entry_before as entry_before_of};
 
 use crate::texts::text_before;
-use snapshot::layout::Layout;
+use accept::opened::Snapshot;
 use snapshot::record::{scope_name, scope_ns};
 
 /// Whether an entry stands before another, by their heads.
-pub fn entry_before(words: &[u32], area: &[u32], l: Layout, a: usize, b: usize) -> bool
-    requires { Reads words.now area.now l }
-    ensures { result ≡ entry_before_of (snap_of words.now area.now l) (scope_at words.now a)
-        (scope_at words.now b) }
+pub fn entry_before(db: &Snapshot, a: usize, b: usize) -> bool
+    ensures { result ≡ entry_before_of (snap_in db.now) (scope_at db.now.records.words.now a)
+        (scope_at db.now.records.words.now b) }
 {
-    let x = scope_name(words, a);
-    let y = scope_name(words, b);
-    let namespace = scope_ns(words, a) < scope_ns(words, b);
+    let x = scope_name(db.records.words, a);
+    let y = scope_name(db.records.words, b);
+    let namespace = scope_ns(db.records.words, a) < scope_ns(db.records.words, b);
     if x.0 == y.0 {
         return namespace;
     }
-    if text_before(words, area, l, x, y) {
+    if text_before(db, x, y) {
         return true;
     }
-    let after = text_before(words, area, l, y, x);
+    let after = text_before(db, y, x);
     !after & namespace
 }

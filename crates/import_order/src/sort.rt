@@ -2,12 +2,13 @@
 ghost use Rattle.std.specs.Prelude.{◌≡◌, ◌&&◌, ◌+◌, ◌≤◌, ltb, length, get_or};
 ghost use Rattle.snapshot.specs.Limits.{area_limit};
 ghost use Rattle.snapshot.specs.Records.{scope_at};
-ghost use Rattle.accept.specs.Post.{Reads};
 ghost use Rattle.import_order.specs.Rooms.{entries_room, heads_room};
 ghost use Rattle.import_order.specs.Lists.{order_of, Copied, Ready, Merges, Sorts};
 
 use crate::entries::entry_before;
-use snapshot::layout::Layout;
+use accept::opened::Snapshot;
+use snapshot::ids::Area;
+use snapshot::records::Records;
 use snapshot::words::word;
 
 /// The first words of the lists in the work area, past the tables.
@@ -32,37 +33,29 @@ impl Lists {
 
 // Copies words from a place on to the spare ones.
 // `copy_within` with its bound as a clause, which `merge` cites.
-fn copy(area: &mut [u32], from: usize, n: usize)
-    requires { (length area.old ≡ area_limit) × (from + n ≤ heads_room) × (n ≤ 2048) }
+fn copy(area: &mut Area, from: usize, n: usize)
+    requires { (from + n ≤ heads_room) × (n ≤ 2048) }
     ensures { Copied area.old area.new from n }
 {
     area.copy_within(from..from + n, Lists::SPARE);
 }
 
 // Whether the next entry of the second run, if there is one before its end, stands before that of the first.
-fn second_first(
-    words: &[u32],
-    area: &[u32],
-    l: Layout,
-    first: usize,
-    second: usize,
-    end: usize,
-) -> bool
-    requires { Reads words.now area.now l }
-    ensures { result ≡ (ltb second end && order_of words.now area.now l
-        (scope_at words.now (get_or area.now second 0)) (scope_at words.now (get_or area.now first 0))) }
+fn second_first(db: &Snapshot, first: usize, second: usize, end: usize) -> bool
+    ensures { result ≡ (ltb second end && order_of db.now.records.words.now db.now.area.now db.now.records.layout
+        (scope_at db.now.records.words.now (get_or db.now.area.now second 0)) (scope_at db.now.records.words.now (get_or db.now.area.now first 0))) }
 {
     if end <= second {
         return false;
     }
-    entry_before(words, area, l, word(area, second), word(area, first))
+    entry_before(db, word(db.area, second), word(db.area, first))
 }
 
 // Merges two runs of entries, the first m and the next n from a place on.
 // Two cursors: which of them moves depends on the entries read, so no range or iterator gives the next place.
-fn merge(words: &[u32], area: &mut [u32], l: Layout, from: usize, m: usize, n: usize)
-    requires { Ready words.now area.old l × (entries_room ≤ from) × (from + m + n ≤ heads_room) }
-    ensures { Merges words.now area.old l area.new from m n }
+fn merge(records: &Records, area: &mut Area, from: usize, m: usize, n: usize)
+    requires { Ready records.now.words.now area.old records.now.layout × (entries_room ≤ from) × (from + m + n ≤ heads_room) }
+    ensures { Merges records.now.words.now area.old records.now.layout area.new from m n }
 {
     copy(area, from, m);
     let middle = from + m;
@@ -70,7 +63,11 @@ fn merge(words: &[u32], area: &mut [u32], l: Layout, from: usize, m: usize, n: u
     let mut i = 0;
     let mut j = 0;
     while i < m {
-        if second_first(words, area, l, Lists::SPARE + i, middle + j, end) {
+        let db = Snapshot {
+            records: *records,
+            area,
+        };
+        if second_first(&db, Lists::SPARE + i, middle + j, end) {
             area[from + i + j] = area[middle + j];
             j += 1;
         } else {
@@ -81,16 +78,16 @@ fn merge(words: &[u32], area: &mut [u32], l: Layout, from: usize, m: usize, n: u
 }
 
 /// Puts the n entries from a place on in order.
-pub fn sort(words: &[u32], area: &mut [u32], l: Layout, from: usize, n: usize)
-    requires { Ready words.now area.old l × (entries_room ≤ from) × (from + n ≤ heads_room) }
-    ensures { Sorts words.now area.old l area.new from n }
+pub fn sort(records: &Records, area: &mut Area, from: usize, n: usize)
+    requires { Ready records.now.words.now area.old records.now.layout × (entries_room ≤ from) × (from + n ≤ heads_room) }
+    ensures { Sorts records.now.words.now area.old records.now.layout area.new from n }
 {
     if n < 2 {
         return;
     }
     let half = n / 2;
     let rest = n - half;
-    sort(words, area, l, from, half);
-    sort(words, area, l, from + half, rest);
-    merge(words, area, l, from, half, rest);
+    sort(records, area, from, half);
+    sort(records, area, from + half, rest);
+    merge(records, area, from, half, rest);
 }

@@ -1,15 +1,15 @@
 //! The order of names by their texts.
 ghost use Rattle.std.specs.Prelude.{◌≡◌, ◌*◌, ◌≤◌, length, take};
 ghost use Rattle.snapshot.specs.Words.{text_at};
-ghost use Rattle.snapshot.specs.Layouts.{name_head, snap_of};
-ghost use Rattle.accept.specs.Post.{Reads};
+ghost use Rattle.snapshot.specs.Layouts.{name_head};
+ghost use Rattle.accept.specs.Opened.{snap_in};
 ghost use Rattle.find_path.specs.Line.{unpacked, text_of};
 ghost use Rattle.import_rules.specs.Collect.{text_before};
 
+use accept::opened::Snapshot;
 use line::text::text_byte;
 use path_rules::choices::name_len;
 use snapshot::ids::Name;
-use snapshot::layout::Layout;
 use snapshot::text::text_of;
 
 // Whether the first bytes of a text stand before those of another.
@@ -35,27 +35,25 @@ fn bytes_before(a: &[u32], n: usize, b: &[u32], m: usize) -> bool
 }
 
 // The bytes of a name, none of a number that is no name's.
-fn bytes_of(words: &[u32], area: &[u32], l: Layout, n: Name) -> usize
-    requires { Reads words.now area.now l }
-    ensures n_value { take result (unpacked (text_at words.now (name_head area.now n.0)))
-        ≡ text_of (snap_of words.now area.now l) n.0 }
-    ensures upper_bound { result ≤ 3 * length (text_at words.now (name_head area.now n.0)) }
+fn bytes_of(db: &Snapshot, n: Name) -> usize
+    ensures n_value { take result (unpacked (text_at db.now.records.words.now (name_head db.now.area.now n.0)))
+        ≡ text_of (snap_in db.now) n.0 }
+    ensures upper_bound { result ≤ 3 * length (text_at db.now.records.words.now (name_head db.now.area.now n.0)) }
 {
-    if l.names <= n.0 {
+    if db.records.layout.names <= n.0 {
         return 0;
     }
-    name_len(words, area, l, n)
+    name_len(db, n)
 }
 
 /// Whether a name stands before another by its text.
-pub fn text_before(words: &[u32], area: &[u32], l: Layout, x: Name, y: Name) -> bool
-    requires { Reads words.now area.now l }
-    ensures { result ≡ text_before (text_of (snap_of words.now area.now l) x.0)
-        (text_of (snap_of words.now area.now l) y.0) }
+pub fn text_before(db: &Snapshot, x: Name, y: Name) -> bool
+    ensures { result ≡ text_before (text_of (snap_in db.now) x.0)
+        (text_of (snap_in db.now) y.0) }
 {
-    let n = bytes_of(words, area, l, x);
-    let m = bytes_of(words, area, l, y);
-    let a = text_of(words, area, x);
-    let b = text_of(words, area, y);
+    let n = bytes_of(db, x);
+    let m = bytes_of(db, y);
+    let a = text_of(db.records.words, db.area, x);
+    let b = text_of(db.records.words, db.area, y);
     bytes_before(a, n, b, m)
 }

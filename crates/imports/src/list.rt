@@ -1,19 +1,20 @@
 //! The import list of a crate that the caller names, written to the target that the caller lends.
 ghost use Rattle.std.specs.Prelude.{◌≡◌, length};
 ghost use Rattle.snapshot.specs.Limits.{area_limit};
-ghost use Rattle.snapshot.specs.Layouts.{snap_of};
+ghost use Rattle.snapshot.specs.Laid.{snap_by};
 ghost use Rattle.check_rules.specs.Verdict.{verdict};
 ghost use Rattle.answer.specs.Answers.{zeros};
 ghost use Rattle.import_order.specs.Lists.{Ready};
 ghost use Rattle.imports.specs.Listings.{list_in, list_by, Lists, ListsIn, told};
 
 use accept::check::check;
+use accept::opened::Snapshot;
 use answer::area::clear;
 use import_lists::threads::thread;
 use import_lists::walk::walk;
 use import_lists::write::put_modules;
-use snapshot::ids::{Crate, WordCount};
-use snapshot::layout::Layout;
+use snapshot::ids::{Area, Crate};
+use snapshot::records::Records;
 use snapshot::refusal::Refusal;
 
 /// The number by which a call is refused, 0 for none, and how many words were written.
@@ -40,52 +41,53 @@ fn told(r: Result<usize, Refusal>) -> Listed
 
 // The list of a crate of an accepted snapshot: counted first, then written where there is room for it. Answers the count.
 fn list_accepted(
-    words: &[u32],
-    area: &mut [u32],
-    l: Layout,
+    records: &Records,
+    area: &mut Area,
     c: Crate,
     target: &mut [u32],
 ) -> Result<usize, Refusal>
-    requires { Ready words.now area.old l }
-    ensures { Lists target.old (list_in c.0 (length target.old) (snap_of words.now area.old l))
+    requires { Ready records.now.words.now area.old records.now.layout }
+    ensures { Lists target.old (list_in c.0 (length target.old) (snap_by records.now area.old))
         target.new (told result) }
 {
-    if l.crates <= c.0 {
+    if records.layout.crates <= c.0 {
         return Err(Refusal::Unknown);
     }
-    let n = thread(words, area, l);
-    let k = walk(words, area, l, n, c);
-    let count = put_modules(words, area, l, n, k, target, 0, false, c);
+    let n = thread(records, area);
+    let k = walk(records, area, n, c);
+    let db = Snapshot {
+        records: *records,
+        area,
+    };
+    let count = put_modules(&db, n, k, target, 0, false, c);
     if target.len() < count {
         return Err(Refusal::Target);
     }
-    put_modules(words, area, l, n, k, target, 0, true, c);
+    put_modules(&db, n, k, target, 0, true, c);
     Ok(count)
 }
 
 // Checks the words, and lists.
 fn list_checked(
     words: &[u32],
-    area: &mut [u32],
+    area: &mut Area,
     c: Crate,
     target: &mut [u32],
 ) -> Result<usize, Refusal>
-    requires { length area.old ≡ area_limit }
     ensures { Lists target.old (list_by c.0 (length target.old) (verdict words.now))
         target.new (told result) }
 {
-    let l = check(words, area)?;
-    list_accepted(words, area, l, c, target)
+    let layout = check(words, area)?;
+    list_accepted(&Records { words, layout }, area, c, target)
 }
 
 // The same, in a work area that serves and is cleared.
 fn list_within(
     words: &[u32],
-    area: &mut [u32],
+    area: &mut Area,
     c: Crate,
     target: &mut [u32],
 ) -> Result<usize, Refusal>
-    requires { length area.old ≡ area_limit }
     ensures lists { Lists target.old (list_by c.0 (length target.old) (verdict words.now))
         target.new (told result) }
     ensures area_after { area.new ≡ zeros area_limit }
@@ -98,11 +100,12 @@ fn list_within(
 /// Writes the import records of a crate to the target, in the order in which the Rust adds them, and answers how many words these are;
 /// what stands past them stays. Or answers the number by which the call is refused, with the target unchanged: 20 a small work area,
 /// 30 to 36 and 43 the snapshot, 23 an unknown crate, 45 a target that is too short. The work area is left as `find_path` leaves it.
+// The test of the work area begins `join` and `new_numbers` too: past it each cuts the area for a function with other slices and another answer.
 pub fn import_list(words: &[u32], area: &mut [u32], c: Crate, target: &mut [u32]) -> Listed
     ensures { ListsIn words.now area.old c.0 target.old target.new area.new result }
 {
-    if area.len() < WordCount::AREA {
+    let Some(front) = area.first_chunk_mut() else {
         return told(Err(Refusal::Area));
-    }
-    told(list_within(words, &mut area[..WordCount::AREA], c, target))
+    };
+    told(list_within(words, front, c, target))
 }

@@ -21,17 +21,27 @@ use records::repeats::repeated;
 use snapshot::ids::{DefinitionId, DefinitionKind, Name, Namespace};
 use snapshot::kind::Size;
 use snapshot::layout::Layout;
-use snapshot::record::{definition_first, definition_kind, definition_second};
+use snapshot::record::{
+    definition_first, definition_kind, definition_second, known_definition_kind,
+};
 use snapshot::refusal::Refusal;
 use snapshot::table::name_head;
 use snapshot::words::word;
 
+/// The number of a definition's kind, where the definition is there; for another number any.
+pub fn kind_at(words: &[u32], l: Layout, d: DefinitionId) -> usize
+    requires { (word_count l < 2 ^ 32) × (d.0 < 2 ^ 32) }
+    ensures { result ≡ (definition_at words.now (definition_base l + definition_size * d.0)).kind }
+{
+    definition_kind(words, l.definition_base() + Size::DEFINITION * d.0)
+}
+
 /// The kind of a definition that is there; for another number any kind, or none.
-pub fn kind_at(words: &[u32], l: Layout, d: DefinitionId) -> Option<DefinitionKind>
+pub fn known_kind_at(words: &[u32], l: Layout, d: DefinitionId) -> Option<DefinitionKind>
     requires { (word_count l < 2 ^ 32) × (d.0 < 2 ^ 32) }
     ensures { result ≡ definition_kind_of (definition_at words.now (definition_base l + definition_size * d.0)).kind }
 {
-    definition_kind(words, l.definition_base() + Size::DEFINITION * d.0)
+    DefinitionKind::of(kind_at(words, l, d))
 }
 
 /// Whether a definition may stand in a namespace.
@@ -39,7 +49,7 @@ pub fn ns_placed(words: &[u32], l: Layout, ns: usize, d: DefinitionId) -> bool
     requires { (word_count l < 2 ^ 32) × (d.0 < 2 ^ 32) }
     ensures { result ≡ (not (eqb ns 2) || eqb (definition_at words.now (definition_base l + definition_size * d.0)).kind 5) }
 {
-    (ns != Namespace::MACROS) | (kind_at(words, l, d) == Some(DefinitionKind::Macro))
+    (ns != Namespace::MACROS) | (known_kind_at(words, l, d) == Some(DefinitionKind::Macro))
 }
 
 // A builtin's name, where it is defined, is one of the builtins.
@@ -48,7 +58,7 @@ fn builtin_named(words: &[u32], area: &[u32], l: Layout, at: usize) -> bool
         (definition_at words.now at).first || is_builtin
         (name_at words.now (name_head area.now (definition_at words.now at).first))) }
 {
-    if definition_kind(words, at) != Some(DefinitionKind::Builtin) {
+    if known_definition_kind(words, at) != Some(DefinitionKind::Builtin) {
         return true;
     }
     let first = definition_first(words, at);
@@ -64,7 +74,7 @@ fn in_range(words: &[u32], area: &[u32], l: Layout, at: usize) -> bool
         (not (eqb (definition_at words.now at).kind 3) || leb l.names (definition_at words.now at).first
         || is_builtin (name_at words.now (name_head area.now (definition_at words.now at).first)))) }
 {
-    let kind = definition_kind(words, at);
+    let kind = known_definition_kind(words, at);
     let second = definition_second(words, at);
     let builtin = builtin_named(words, area, l, at);
     kind.is_some() & ((kind == Some(DefinitionKind::Variant)) | (second == 0)) & builtin
@@ -73,7 +83,7 @@ fn in_range(words: &[u32], area: &[u32], l: Layout, at: usize) -> bool
 fn defined(words: &[u32], l: Layout, at: usize) -> bool
     ensures { result ≡ definition_defined (counts_in l) (definition_at words.now at) }
 {
-    let kind = definition_kind(words, at);
+    let kind = known_definition_kind(words, at);
     let first = definition_first(words, at);
     let second = definition_second(words, at);
     match kind {
@@ -89,8 +99,8 @@ fn placed(words: &[u32], l: Layout, at: usize) -> bool
         (definition_at words.now (definition_base l + definition_size * (definition_at words.now at).first)).kind 4) }
 {
     let parent = DefinitionId(definition_first(words, at));
-    (definition_kind(words, at) != Some(DefinitionKind::Variant))
-        | (kind_at(words, l, parent) == Some(DefinitionKind::Other))
+    (known_definition_kind(words, at) != Some(DefinitionKind::Variant))
+        | (known_kind_at(words, l, parent) == Some(DefinitionKind::Other))
 }
 
 // A module or a builtin that has a definition already; the other kinds may stand again.
@@ -101,7 +111,7 @@ fn again(words: &[u32], area: &[u32], l: Layout, at: usize) -> bool
         → result ≡ ((eqb (definition_at words.now at).kind 1 || eqb (definition_at words.now at).kind 3) && any
         (same_by words.now true 1 at) (rows (λ k. definition_base l + definition_size * k) 0 l.definitions)) }
 {
-    match definition_kind(words, at) {
+    match known_definition_kind(words, at) {
         Some(DefinitionKind::Module) => {
             let mark = Chains::MODULE_MARKS + definition_first(words, at);
             word(area, mark) != 0

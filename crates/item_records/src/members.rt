@@ -7,21 +7,21 @@ ghost use Rattle.check_rules.specs.Tests.{member_range, member_defined, is_membe
 ghost use Rattle.check_rules.specs.Steps.{member_step};
 ghost use Rattle.record_rules.specs.Stands.{Ready, Stands, Answered, counts_in};
 
-use crate::definitions::kind_at;
+use crate::definitions::known_kind_at;
 use record_rules::judge::judge;
 use snapshot::ids::{DefinitionKind, MemberKind};
 use snapshot::kind::Size;
 use snapshot::layout::Layout;
 use snapshot::record::{
-    definition_first, definition_kind, definition_second, member_bits, member_definition,
-    member_kind, member_name, member_parent,
+    definition_first, definition_second, known_definition_kind, known_member_kind, member_bits,
+    member_definition, member_name, member_parent,
 };
 use snapshot::refusal::Refusal;
 
 fn in_range(words: &[u32], at: usize) -> bool
     ensures { result ≡ member_range (member_at words.now at) }
 {
-    member_kind(words, at).is_some() & (member_bits(words, at) <= 3)
+    known_member_kind(words, at).is_some() & (member_bits(words, at) <= 3)
 }
 
 // A parent and a definition against the definitions: the shape of an extern's test, with no field and no count alike but the names.
@@ -39,10 +39,10 @@ fn fits(words: &[u32], at: usize, head: usize) -> bool
     ensures { result ≡ is_member (member_at words.now at).kind (member_at words.now at).parent
         (member_at words.now at).name (definition_at words.now head) }
 {
-    let kind = member_kind(words, at);
+    let kind = known_member_kind(words, at);
     let parent = member_parent(words, at);
     let name = member_name(words, at);
-    let of = definition_kind(words, head);
+    let of = known_definition_kind(words, head);
     let owned = definition_first(words, head) == parent.0;
     let named = definition_second(words, head) == name.0;
     if kind == Some(MemberKind::Variant) {
@@ -58,7 +58,7 @@ fn placed(words: &[u32], l: Layout, at: usize) -> bool
         (member_at words.now at).name (definition_at words.now (definition_base l + definition_size * (member_at
         words.now at).definition))) }
 {
-    let parent = kind_at(words, l, member_parent(words, at));
+    let parent = known_kind_at(words, l, member_parent(words, at));
     let definition = member_definition(words, at);
     let head = l.definition_base() + Size::DEFINITION * definition.0;
     (parent == Some(DefinitionKind::Other)) & fits(words, at, head)

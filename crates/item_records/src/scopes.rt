@@ -34,6 +34,7 @@ fn in_range(words: &[u32], at: usize) -> bool
         & (scope_bits(words, at) <= 3)
 }
 
+// As in `in_range`: `scope_edits::entries` tests the same of words that are no record.
 fn defined(words: &[u32], l: Layout, at: usize) -> bool
     ensures { result ≡ scope_defined (counts_in l) (scope_at words.now at) }
 {

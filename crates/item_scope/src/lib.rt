@@ -5,7 +5,8 @@
 ghost use Rattle.std.specs.Prelude.{◌≡◌, List, Bool, true, false, ◌&&◌, ℕ, ◌+◌, ◌*◌, ◌^◌, ◌<◌};
 ghost use Rattle.snapshot.specs.Sizes.{scope_size};
 ghost use Rattle.snapshot.specs.Records.{Scope, scope_at};
-ghost use Rattle.snapshot.specs.Layouts.{word_count, scope_base, records_of, snap_of};
+ghost use Rattle.snapshot.specs.Layouts.{word_count, scope_base, records_of};
+ghost use Rattle.snapshot.specs.Laid.{snap_by};
 ghost use Rattle.hir_def.specs.ItemScope.{is_declared, is_deprecated, is_fresh, counts, is_for, is_named, is_module_entry, name_of, names_of, name_reads, names_reads};
 ghost use Rattle.hir_def.specs.ItemScope.{preferred, preferred_reads, get as entry_named};
 ghost use Rattle.hir_def.specs.Finds.{first_of, reads_of, or_first};
@@ -13,12 +14,13 @@ ghost use Rattle.hir_def.specs.Nameres.{entry_in};
 ghost use Rattle.hir_def.specs.Entries.{entry_of, UpTo, NextOf};
 
 use hir_def::finds::{first_where, next_where};
-use hir_def::items::{item_of, kind_of, same_item};
+use hir_def::items::{item_of, known_kind_of, same_item};
 use hir_def::{Item, Lookup, Place};
 use snapshot::ids::{DefinitionKind, ModuleId, Name, Namespace};
 use snapshot::kind::Size;
 use snapshot::layout::Layout;
 use snapshot::record::{scope_declared, scope_definition, scope_name, scope_ns, scope_owner};
+use snapshot::records::Records;
 
 /// Whether the entry with its head at a place was declared there: 1, or 3 where it is deprecated too.
 pub fn is_declared(words: &[u32], h: usize) -> bool
@@ -36,71 +38,72 @@ pub fn is_deprecated(words: &[u32], h: usize) -> bool
 
 /// Whether the entry with its head at a place is one of the module's for the item.
 // Over the fields of a scope entry; `import_map::is_import` reads an import's, so one of both would take four readers as parameters.
-pub fn is_for(words: &[u32], l: Layout, h: usize, m: ModuleId, item: Item) -> bool
-    requires { word_count l < 2 ^ 32 }
-    ensures { (A : List ℕ) → result ≡ is_for (snap_of words.now A l) m.0 item (scope_at words.now h) }
+pub fn is_for(records: &Records, h: usize, m: ModuleId, item: Item) -> bool
+    ensures { (A : List ℕ) → result ≡ is_for (snap_by records.now A) m.0 item (scope_at records.now.words.now h) }
 {
-    let owner = scope_owner(words, h);
+    let owner = scope_owner(records.words, h);
     if owner.0 != m.0 {
         return false;
     }
-    let ns = scope_ns(words, h);
-    let d = scope_definition(words, h);
-    same_item(item_of(words, l, ns, d), item)
+    let ns = scope_ns(records.words, h);
+    let d = scope_definition(records.words, h);
+    same_item(item_of(records, ns, d), item)
 }
 
 // The same, and the entry was declared there where only such entries count.
-fn is_entry(words: &[u32], l: Layout, h: usize, m: ModuleId, item: Item, declared: bool) -> bool
-    requires { word_count l < 2 ^ 32 }
+fn is_entry(records: &Records, h: usize, m: ModuleId, item: Item, declared: bool) -> bool
     ensures { (A : List ℕ)
-        → result ≡ (is_for (snap_of words.now A l) m.0 item (scope_at words.now h) && counts declared
-        (scope_at words.now h)) }
+        → result ≡ (is_for (snap_by records.now A) m.0 item (scope_at records.now.words.now h) && counts declared
+        (scope_at records.now.words.now h)) }
 {
-    if is_for(words, l, h, m, item) {
-        let here = is_declared(words, h);
+    if is_for(records, h, m, item) {
+        let here = is_declared(records.words, h);
         return here | !declared;
     }
     false
 }
 
 // The same, and the entry isn't deprecated.
-fn is_fresh(words: &[u32], l: Layout, h: usize, m: ModuleId, item: Item, declared: bool) -> bool
-    requires { word_count l < 2 ^ 32 }
+fn is_fresh(records: &Records, h: usize, m: ModuleId, item: Item, declared: bool) -> bool
     ensures { (A : List ℕ)
-        → result ≡ (is_for (snap_of words.now A l) m.0 item (scope_at words.now h) && is_fresh (counts declared)
-        (scope_at words.now h)) }
+        → result ≡ (is_for (snap_by records.now A) m.0 item (scope_at records.now.words.now h) && is_fresh (counts declared)
+        (scope_at records.now.words.now h)) }
 {
-    is_entry(words, l, h, m, item, declared) && !is_deprecated(words, h)
+    is_entry(records, h, m, item, declared) && !is_deprecated(records.words, h)
 }
 
 /// The first of the module's entries for the item; of those declared there, where only such entries count. Counts the records that it reads.
-pub fn names_of(words: &[u32], l: Layout, m: ModuleId, item: Item, declared: bool) -> Lookup
-    requires { word_count l < 2 ^ 32 }
-    ensures { ((A : List ℕ) → entry_of scope_at words.now result.entry ≡ names_of (snap_of words.now A l)
-        m.0 item (counts declared)) × ((A : List ℕ) → result.read ≡ names_reads (snap_of words.now A l) m.0 item (counts declared))
-        × UpTo 8 (scope_base l) l.scopes result.entry result.read }
+pub fn names_of(records: &Records, m: ModuleId, item: Item, declared: bool) -> Lookup
+    ensures { ((A : List ℕ) → entry_of scope_at records.now.words.now result.entry ≡ names_of (snap_by records.now A)
+        m.0 item (counts declared)) × ((A : List ℕ) → result.read ≡ names_reads (snap_by records.now A) m.0 item (counts declared))
+        × UpTo 8 (scope_base records.now.layout) records.now.layout.scopes result.entry result.read }
 {
-    let test = |h| is_entry(words, l, h, m, item, declared);
-    match next_where(l.scope_base(), Size::SCOPE, l.scopes, 0, test) {
+    let test = |h| is_entry(records, h, m, item, declared);
+    match next_where(
+        records.layout.scope_base(),
+        Size::SCOPE,
+        records.layout.scopes,
+        0,
+        test,
+    ) {
         Some(found) => Lookup {
             entry: Some(found.head),
             read: found.number + 1,
         },
         None => Lookup {
             entry: None,
-            read: l.scopes,
+            read: records.layout.scopes,
         },
     }
 }
 
 /// The first of the module's entries for the item.
-pub fn name_of(words: &[u32], l: Layout, m: ModuleId, item: Item) -> Lookup
-    requires { word_count l < 2 ^ 32 }
-    ensures { ((A : List ℕ) → entry_of scope_at words.now result.entry ≡ name_of (snap_of words.now A l) m.0 item)
-        × ((A : List ℕ) → result.read ≡ name_reads (snap_of words.now A l) m.0 item)
-        × UpTo 8 (scope_base l) l.scopes result.entry result.read }
+pub fn name_of(records: &Records, m: ModuleId, item: Item) -> Lookup
+    ensures { ((A : List ℕ) → entry_of scope_at records.now.words.now result.entry ≡ name_of (snap_by records.now A) m.0 item)
+        × ((A : List ℕ) → result.read ≡ name_reads (snap_by records.now A) m.0 item)
+        × UpTo 8 (scope_base records.now.layout) records.now.layout.scopes result.entry result.read }
 {
-    names_of(words, l, m, item, false)
+    names_of(records, m, item, false)
 }
 
 /// The first entry that passes the second test, which passes no more than the first; where there is none, the first that passes the first test, with
@@ -135,35 +138,26 @@ pub fn preferred<F: Fn(usize) -> bool, G: Fn(usize) -> bool>(l: Layout, its: F, 
 }
 
 /// The first of the entries of `names_of` that isn't deprecated; where there is none, the first of them, with all records read.
-pub fn fresh_of(words: &[u32], l: Layout, m: ModuleId, item: Item, declared: bool) -> Lookup
-    requires { word_count l < 2 ^ 32 }
-    ensures { ((A : List ℕ) → entry_of scope_at words.now result.entry ≡ preferred true (snap_of words.now A l)
-        m.0 item (counts declared) (names_of (snap_of words.now A l) m.0 item (counts declared)))
-        × ((A : List ℕ) (n : ℕ) → result.read ≡ preferred_reads true (snap_of words.now A l) m.0 item (counts declared) n) }
+pub fn fresh_of(records: &Records, m: ModuleId, item: Item, declared: bool) -> Lookup
+    ensures { ((A : List ℕ) → entry_of scope_at records.now.words.now result.entry ≡ preferred true (snap_by records.now A)
+        m.0 item (counts declared) (names_of (snap_by records.now A) m.0 item (counts declared)))
+        × ((A : List ℕ) (n : ℕ) → result.read ≡ preferred_reads true (snap_by records.now A) m.0 item (counts declared) n) }
 {
-    let its = |h| is_entry(words, l, h, m, item, declared);
-    let fresh = |h| is_fresh(words, l, h, m, item, declared);
-    preferred(l, its, fresh)
+    let its = |h| is_entry(records, h, m, item, declared);
+    let fresh = |h| is_fresh(records, h, m, item, declared);
+    preferred(records.layout, its, fresh)
 }
 
 /// The entry of `names_of`; by options bit 32 that of `fresh_of`.
-pub fn entry_in(
-    words: &[u32],
-    l: Layout,
-    m: ModuleId,
-    item: Item,
-    declared: bool,
-    fresh: bool,
-) -> Lookup
-    requires { word_count l < 2 ^ 32 }
-    ensures { ((A : List ℕ) → entry_of scope_at words.now result.entry ≡ entry_in (snap_of words.now A l)
-        item declared fresh m.0) × ((A : List ℕ) → result.read ≡ preferred_reads fresh (snap_of words.now A l) m.0 item
-        (counts declared) (names_reads (snap_of words.now A l) m.0 item (counts declared))) }
+pub fn entry_in(records: &Records, m: ModuleId, item: Item, declared: bool, fresh: bool) -> Lookup
+    ensures { ((A : List ℕ) → entry_of scope_at records.now.words.now result.entry ≡ entry_in (snap_by records.now A)
+        item declared fresh m.0) × ((A : List ℕ) → result.read ≡ preferred_reads fresh (snap_by records.now A) m.0 item
+        (counts declared) (names_reads (snap_by records.now A) m.0 item (counts declared))) }
 {
     if fresh {
-        return fresh_of(words, l, m, item, declared);
+        return fresh_of(records, m, item, declared);
     }
-    names_of(words, l, m, item, declared)
+    names_of(records, m, item, declared)
 }
 
 // Whether the entry with its head at a place is the module's with that namespace and name.
@@ -176,33 +170,42 @@ fn is_named(words: &[u32], h: usize, m: ModuleId, ns: usize, name: Name) -> bool
 }
 
 /// The module's entry with that namespace and name.
-pub fn get(words: &[u32], l: Layout, m: ModuleId, ns: usize, name: Name) -> Option<usize>
-    requires { word_count l < 2 ^ 32 }
-    ensures { (A : List ℕ) → entry_of scope_at words.now result ≡ entry_named (snap_of words.now A l) m.0 ns name.0 }
+// What is left of a search among the records of a kind is the call of `first_where` with a test; so in the other searches.
+pub fn get(records: &Records, m: ModuleId, ns: usize, name: Name) -> Option<usize>
+    ensures { (A : List ℕ) → entry_of scope_at records.now.words.now result ≡ entry_named (snap_by records.now A) m.0 ns name.0 }
 {
-    let test = |h| is_named(words, h, m, ns, name);
-    first_where(l.scope_base(), Size::SCOPE, l.scopes, test)
+    let test = |h| is_named(records.words, h, m, ns, name);
+    first_where(
+        records.layout.scope_base(),
+        Size::SCOPE,
+        records.layout.scopes,
+        test,
+    )
 }
 
 /// Whether the entry with its head at a place is the module's, for a module in types.
-pub fn is_module_entry(words: &[u32], l: Layout, h: usize, m: ModuleId) -> bool
-    requires { word_count l < 2 ^ 32 }
-    ensures { (A : List ℕ) → result ≡ is_module_entry (snap_of words.now A l) m.0 (scope_at words.now h) }
+pub fn is_module_entry(records: &Records, h: usize, m: ModuleId) -> bool
+    ensures { (A : List ℕ) → result ≡ is_module_entry (snap_by records.now A) m.0 (scope_at records.now.words.now h) }
 {
-    let owner = scope_owner(words, h);
+    let owner = scope_owner(records.words, h);
     if owner.0 != m.0 {
         return false;
     }
-    let kind = kind_of(words, l, scope_definition(words, h));
-    (scope_ns(words, h) == Namespace::TYPES) & (kind == Some(DefinitionKind::Module))
+    let kind = known_kind_of(records, scope_definition(records.words, h));
+    (scope_ns(records.words, h) == Namespace::TYPES) & (kind == Some(DefinitionKind::Module))
 }
 
 /// The next of the module's entries for a module in types, from the entry number k on.
-pub fn modules_in_scope(words: &[u32], l: Layout, k: usize, m: ModuleId) -> Option<Place>
-    requires { word_count l < 2 ^ 32 }
-    ensures { (A : List ℕ) → NextOf (is_module_entry (snap_of words.now A l) m.0) scope_at scope_size
-        words.now (scope_base l) l.scopes k result }
+pub fn modules_in_scope(records: &Records, k: usize, m: ModuleId) -> Option<Place>
+    ensures { (A : List ℕ) → NextOf (is_module_entry (snap_by records.now A) m.0) scope_at scope_size
+        records.now.words.now (scope_base records.now.layout) records.now.layout.scopes k result }
 {
-    let test = |h| is_module_entry(words, l, h, m);
-    next_where(l.scope_base(), Size::SCOPE, l.scopes, k, test)
+    let test = |h| is_module_entry(records, h, m);
+    next_where(
+        records.layout.scope_base(),
+        Size::SCOPE,
+        records.layout.scopes,
+        k,
+        test,
+    )
 }

@@ -1,19 +1,20 @@
 //! Two snapshots joined, in the target that the caller lends. Both are checked in one work area: the second check writes over the tables of the
-//! first, of which only the words and the layout are needed after it.
+//! first, of which only the words and the layout are needed after it. Before they are checked, both are words alone.
 ghost use Rattle.std.specs.Prelude.{◌≡◌, length};
 ghost use Rattle.snapshot.specs.Limits.{area_limit};
 ghost use Rattle.check_rules.specs.Verdict.{accept, verdict};
 ghost use Rattle.answer.specs.Answers.{zeros};
 ghost use Rattle.join_words.specs.Joined.{join_in, join_by};
-ghost use Rattle.join_numbers.specs.Parts.{part_of, Part, Ready};
+ghost use Rattle.join_numbers.specs.Parts.{part_of, Part, ready_in, first_in, second_in};
 ghost use Rattle.join.specs.Joins.{Joins, JoinsIn, fits_in, told};
 
 use accept::check::check;
 use answer::area::clear;
+use join_numbers::inputs::Parts;
 use join_numbers::tables::number;
 use join_records::write::put_kinds;
-use snapshot::ids::{Crate, DefinitionId, ModuleId, Name, WordCount};
-use snapshot::layout::Layout;
+use snapshot::ids::{Area, Crate, DefinitionId, ModuleId, Name, WordCount};
+use snapshot::records::Records;
 use snapshot::refusal::Refusal;
 
 /// The number by which a call is refused, 0 for none, and how many words were written.
@@ -68,20 +69,15 @@ fn fits(
 }
 
 // Joins two accepted snapshots: the words are counted first, then written where they fit. Answers the count.
-fn join_accepted(
-    first: &[u32],
-    second: &[u32],
-    area: &mut [u32],
-    l: Layout,
-    m: Layout,
-    target: &mut [u32],
-) -> Result<usize, Refusal>
-    requires { Ready first.now second.now area.old l m }
-    ensures { Joins target.old (join_in (length target.old) (part_of first.now)
-        (part_of second.now)) target.new (told result) }
+fn join_accepted(parts: &Parts, area: &mut [u32], target: &mut [u32]) -> Result<usize, Refusal>
+    requires { ready_in parts.now area.old }
+    ensures { Joins target.old (join_in (length target.old) (first_in parts.now)
+        (second_in parts.now)) target.new (told result) }
 {
-    let n = number(first, second, area, l, m);
-    let count = put_kinds(first, second, area, l, m, target, false);
+    let n = number(parts, area);
+    let count = put_kinds(parts, area, target, false);
+    let l = parts.first.layout;
+    let m = parts.second.layout;
     let room = target.len();
     if !fits(
         count,
@@ -93,49 +89,58 @@ fn join_accepted(
     ) {
         return Err(Refusal::Join);
     }
-    put_kinds(first, second, area, l, m, target, true);
+    put_kinds(parts, area, target, true);
     Ok(count)
 }
 
 // Checks the second, and joins.
 fn join_second(
-    first: &[u32],
+    first: &Records,
     second: &[u32],
-    area: &mut [u32],
-    l: Layout,
+    area: &mut Area,
     target: &mut [u32],
 ) -> Result<usize, Refusal>
-    requires { (length area.old ≡ area_limit) × Part first.now l }
-    ensures { Joins target.old (join_by (length target.old) (accept (part_of first.now))
+    requires { Part first.now.words.now first.now.layout }
+    ensures { Joins target.old (join_by (length target.old) (accept (part_of first.now.words.now))
         (verdict second.now)) target.new (told result) }
 {
-    let m = check(second, area)?;
-    join_accepted(first, second, area, l, m, target)
+    let layout = check(second, area)?;
+    let second = Records {
+        words: second,
+        layout,
+    };
+    let parts = Parts {
+        first: *first,
+        second,
+    };
+    join_accepted(&parts, area, target)
 }
 
 // Checks both, and joins.
 fn join_checked(
     first: &[u32],
     second: &[u32],
-    area: &mut [u32],
+    area: &mut Area,
     target: &mut [u32],
 ) -> Result<usize, Refusal>
-    requires { length area.old ≡ area_limit }
     ensures { Joins target.old (join_by (length target.old) (verdict first.now)
         (verdict second.now)) target.new (told result) }
 {
-    let l = check(first, area)?;
-    join_second(first, second, area, l, target)
+    let layout = check(first, area)?;
+    let first = Records {
+        words: first,
+        layout,
+    };
+    join_second(&first, second, area, target)
 }
 
 // The same, in a work area that serves and is cleared.
 fn join_within(
     first: &[u32],
     second: &[u32],
-    area: &mut [u32],
+    area: &mut Area,
     target: &mut [u32],
 ) -> Result<usize, Refusal>
-    requires { length area.old ≡ area_limit }
     ensures joins { Joins target.old (join_by (length target.old) (verdict first.now)
         (verdict second.now)) target.new (told result) }
     ensures area_after { area.new ≡ zeros area_limit }
@@ -152,8 +157,8 @@ pub fn join(first: &[u32], second: &[u32], area: &mut [u32], target: &mut [u32])
     ensures { JoinsIn first.now second.now area.old target.old target.new
         area.new result }
 {
-    if area.len() < WordCount::AREA {
+    let Some(front) = area.first_chunk_mut() else {
         return told(Err(Refusal::Area));
-    }
-    told(join_within(first, second, &mut area[..WordCount::AREA], target))
+    };
+    told(join_within(first, second, front, target))
 }

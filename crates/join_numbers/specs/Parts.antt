@@ -12,6 +12,7 @@ use Rattle.check_rules.specs.Verdict.{accept, verdict}
 use Rattle.accept.specs.Post.{Reads}
 use Rattle.find_path.specs.Line.{snapshot_of}
 use Rattle.edit_rules.specs.Written.{name_words, each_words, snapshot_words}
+use Rattle.join_numbers.specs.declared.inputs.Parts.{Parts}
 
 -- the snapshot of an input
 abbrev pub part_of : List ℕ → Snapshot
@@ -61,3 +62,14 @@ pub record Ready (W X A : List ℕ) (l₁ l₂ : Layout) : Type 0 where
   pub first : Part W l₁
   pub second : Reads X A l₂
   pub room : area_limit ≤ length A
+
+abbrev pub ready_in : Parts → List ℕ → Type 0
+ready_in p A = Ready p.first.words.now p.second.words.now A p.first.layout p.second.layout
+
+-- the snapshots of both
+
+abbrev pub first_in : Parts → Snapshot
+first_in p = part_of p.first.words.now
+
+abbrev pub second_in : Parts → Snapshot
+second_in p = part_of p.second.words.now

@@ -3,7 +3,7 @@ ghost use Rattle.std.specs.Prelude.{◌≡◌, ◌^◌, ◌<◌, ◌≤◌, leng
 ghost use Rattle.snapshot.specs.Limits.{name_limit};
 ghost use Rattle.snapshot.specs.Sizes.{definition_size};
 ghost use Rattle.snapshot.specs.Records.{name_at, definition_at};
-ghost use Rattle.snapshot.specs.Layouts.{word_count, definition_base, name_head, records_of};
+ghost use Rattle.snapshot.specs.Layouts.{definition_base, name_head, records_of};
 ghost use Rattle.check_rules.specs.Tests.{same_name};
 ghost use Rattle.hir_def.specs.Finds.{place_of};
 ghost use Rattle.join_numbers.specs.Parts.{names_from};
@@ -13,8 +13,8 @@ use hir_def::finds::next_where;
 use record_rules::names::known;
 use snapshot::ids::{DefinitionKind, Name};
 use snapshot::kind::{Size, text_words};
-use snapshot::layout::Layout;
-use snapshot::record::{definition_first, definition_kind};
+use snapshot::record::{definition_first, known_definition_kind};
+use snapshot::records::Records;
 use snapshot::words::payload;
 
 /// The number that a name of the second part has among the first's, their count for none.
@@ -39,24 +39,24 @@ pub fn place_of_name(first: &[u32], count: usize, second: &[u32], area: &[u32], 
 fn is_named(first: &[u32], at: usize, name: usize) -> bool
     ensures { result ≡ is_named name (definition_at first.now at) }
 {
-    let builtin = definition_kind(first, at) == Some(DefinitionKind::Builtin);
+    let builtin = known_definition_kind(first, at) == Some(DefinitionKind::Builtin);
     builtin & (name == definition_first(first, at))
 }
 
 /// The number of the first part's builtin with a name, the count of its definitions for none.
-pub fn place_of_builtin(first: &[u32], l: Layout, name: usize) -> usize
-    requires { word_count l < 2 ^ 32 }
-    ensures { result ≡ place_of (is_named name) 0 (records_of definition_at definition_size first.now (definition_base l) l.definitions) }
+pub fn place_of_builtin(first: &Records, name: usize) -> usize
+    ensures { result ≡ place_of (is_named name) 0 (records_of definition_at definition_size first.now.words.now
+        (definition_base first.now.layout) first.now.layout.definitions) }
 {
-    let test = |at| is_named(first, at, name);
+    let test = |at| is_named(first.words, at, name);
     match next_where(
-        l.definition_base(),
+        first.layout.definition_base(),
         Size::DEFINITION,
-        l.definitions,
+        first.layout.definitions,
         0,
         test,
     ) {
         Some(found) => found.number,
-        None => l.definitions,
+        None => first.layout.definitions,
     }
 }

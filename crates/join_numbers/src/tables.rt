@@ -5,16 +5,16 @@ ghost use Rattle.snapshot.specs.Records.{definition_at};
 ghost use Rattle.snapshot.specs.Layouts.{definition_base};
 ghost use Rattle.hir_def.specs.Finds.{place_of};
 ghost use Rattle.join_words.specs.Joined.{name_number, same_builtin};
-ghost use Rattle.join_numbers.specs.Parts.{part_of, Ready};
+ghost use Rattle.join_numbers.specs.Parts.{ready_in, first_in, second_in};
 ghost use Rattle.join_numbers.specs.Numbered.{name_table, Holds, number_by, fresh_by, NamesNumbered, DefinitionsNumbered, Numbered};
 
+use crate::inputs::Parts;
 use crate::places::{place_of_builtin, place_of_name};
 use snapshot::ids::{DefinitionId, DefinitionKind, Name};
 use snapshot::kind::Size;
-use snapshot::layout::Layout;
-use snapshot::record::{definition_first, definition_kind};
+use snapshot::record::{definition_first, known_definition_kind};
 use snapshot::table::Tables;
-use snapshot::words::word;
+use snapshot::words::field;
 
 /// The first word of each table.
 pub struct Moved;
@@ -48,79 +48,60 @@ fn put_number(area: &mut [u32], at: usize, old: usize, place: usize, fresh: usiz
 }
 
 /// Fills the table of the names' numbers, and answers how many names are new.
-pub fn number_names(
-    first: &[u32],
-    second: &[u32],
-    area: &mut [u32],
-    l1: Layout,
-    l2: Layout,
-) -> usize
-    requires { Ready first.now second.now area.old l1 l2 }
-    ensures { NamesNumbered (part_of first.now) (part_of second.now) area.old area.new result }
+pub fn number_names(parts: &Parts, area: &mut [u32]) -> usize
+    requires { ready_in parts.now area.old }
+    ensures { NamesNumbered (first_in parts.now) (second_in parts.now) area.old area.new result }
 {
-    let old = l1.names;
-    let count = l2.names;
+    let old = parts.first.layout.names;
+    let count = parts.second.layout.names;
     let mut fresh = 0;
     for n in 0..count {
-        let place = place_of_name(first, old, second, area, Name(n));
+        let place = place_of_name(parts.first.words, old, parts.second.words, area, Name(n));
         fresh = put_number(area, Moved::NAMES + n, old, place, fresh);
     }
     fresh
 }
 
 // The number that a definition of the second part has among the first's, their count for none: only builtins are in both.
-fn place_of_definition(
-    first: &[u32],
-    second: &[u32],
-    area: &[u32],
-    l1: Layout,
-    l2: Layout,
-    d: DefinitionId,
-) -> usize
-    requires ready { Ready first.now second.now area.now l1 l2 × (d.0 < l2.definitions) }
-    requires holds { Holds area.now name_table (name_number (part_of first.now) (part_of second.now)) l2.names }
-    ensures { result ≡ place_of (same_builtin (part_of first.now) (part_of second.now)
-        (definition_at second.now (definition_base l2 + definition_size * d.0))) 0 (part_of first.now).definitions }
+fn place_of_definition(parts: &Parts, area: &[u32], d: DefinitionId) -> usize
+    requires ready { ready_in parts.now area.now × (d.0 < parts.now.second.layout.definitions) }
+    requires holds { Holds area.now name_table (name_number (first_in parts.now) (second_in parts.now)) parts.now.second.layout.names }
+    ensures { result ≡ place_of (same_builtin (first_in parts.now) (second_in parts.now)
+        (definition_at parts.now.second.words.now (definition_base parts.now.second.layout + definition_size * d.0))) 0
+        (first_in parts.now).definitions }
 {
-    let at = l2.definition_base() + Size::DEFINITION * d.0;
-    if definition_kind(second, at) != Some(DefinitionKind::Builtin) {
-        return l1.definitions;
+    let second = parts.second.words;
+    let at = parts.second.layout.definition_base() + Size::DEFINITION * d.0;
+    if known_definition_kind(second, at) != Some(DefinitionKind::Builtin) {
+        return parts.first.layout.definitions;
     }
-    let name = word(area, Moved::NAMES + definition_first(second, at));
-    place_of_builtin(first, l1, name)
+    let name = field(area, Moved::NAMES, definition_first(second, at));
+    place_of_builtin(&parts.first, name)
 }
 
 /// Fills the table of the definitions' numbers, with that of the names' filled, and answers how many definitions are new.
-pub fn number_definitions(
-    first: &[u32],
-    second: &[u32],
-    area: &mut [u32],
-    l1: Layout,
-    l2: Layout,
-) -> usize
-    requires ready { Ready first.now second.now area.old l1 l2 }
-    requires holds { Holds area.old name_table (name_number (part_of first.now) (part_of second.now)) l2.names }
-    ensures { DefinitionsNumbered (part_of first.now) (part_of second.now) area.old area.new result }
+// As `number_names`; the place is read in the area that the loop writes, so a closure for it would take the area, under a clause of its own.
+pub fn number_definitions(parts: &Parts, area: &mut [u32]) -> usize
+    requires ready { ready_in parts.now area.old }
+    requires holds { Holds area.old name_table (name_number (first_in parts.now) (second_in parts.now)) parts.now.second.layout.names }
+    ensures { DefinitionsNumbered (first_in parts.now) (second_in parts.now) area.old area.new result }
 {
-    let old = l1.definitions;
-    let count = l2.definitions;
+    let old = parts.first.layout.definitions;
+    let count = parts.second.layout.definitions;
     let mut fresh = 0;
     for n in 0..count {
-        let place = place_of_definition(first, second, area, l1, l2, DefinitionId(n));
+        let place = place_of_definition(parts, area, DefinitionId(n));
         fresh = put_number(area, Moved::DEFINITIONS + n, old, place, fresh);
     }
     fresh
 }
 
 /// Fills both tables.
-pub fn number(first: &[u32], second: &[u32], area: &mut [u32], l1: Layout, l2: Layout) -> New
-    requires { Ready first.now second.now area.old l1 l2 }
-    ensures { Numbered (part_of first.now) (part_of second.now) area.old area.new result }
+pub fn number(parts: &Parts, area: &mut [u32]) -> New
+    requires { ready_in parts.now area.old }
+    ensures { Numbered (first_in parts.now) (second_in parts.now) area.old area.new result }
 {
-    let names = number_names(first, second, area, l1, l2);
-    let definitions = number_definitions(first, second, area, l1, l2);
-    New {
-        names: names,
-        definitions: definitions,
-    }
+    let names = number_names(parts, area);
+    let definitions = number_definitions(parts, area);
+    New { names, definitions }
 }

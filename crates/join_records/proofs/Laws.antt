@@ -43,6 +43,10 @@ pub role_long : (k i : ℕ) → 3 ≤ k → 8 ≤ i → 0 ≡ role_of k i
 unfolding role_of
 role_long k i h g = rw (role_of, le-ltb k 3 h, le-ltb i 8 g)
 
+pub role_read : (k i : ℕ) → 3 ≤ k → i < 8 → get_or role_table (8 * k + i - 24) 0 ≡ role_of k i
+unfolding role_of
+role_read k i h g = rw (role_of, le-ltb k 3 h, lt-ltb i 8 g)
+
 pub or_none_lem : (m n : ℕ) → n ≡ 0 → 0 ≡ or_none (λ k. m + k) n
 or_none_lem m n e = rw e
 

@@ -68,6 +68,6 @@ read_row f (suc (suc (suc (suc (suc (suc zero)))))) h = refl
 read_row f (suc (suc (suc (suc (suc (suc (suc zero))))))) h = refl
 read_row f (suc (suc (suc (suc (suc (suc (suc (suc i)))))))) h = omega (arith, h)
 
-pub role_read : (f : ℕ → ℕ) (xs : List Role) (i : ℕ) (d : Role) → length xs ≡ 8 → map role_number xs ≡ rows f 0 8 → i < 8
+pub role_given : (f : ℕ → ℕ) (xs : List Role) (i : ℕ) (d : Role) → length xs ≡ 8 → map role_number xs ≡ rows f 0 8 → i < 8
     → role_number (get_or xs i d) ≡ f i
-role_read f xs i d e q h = numbered xs i d (omega (arith, e, h)) ∙ ap (λ ys. get_or ys i 0) q ∙ read_row f i h
+role_given f xs i d e q h = numbered xs i d (omega (arith, e, h)) ∙ ap (λ ys. get_or ys i 0) q ∙ read_row f i h

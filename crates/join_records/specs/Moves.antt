@@ -10,6 +10,8 @@ use Rattle.snapshot.specs.declared.layout.Layout.{Layout}
 use Rattle.edit_rules.specs.Written.{head_of, joined}
 use Rattle.join_numbers.specs.Numbered.{name_table, definition_table}
 use Rattle.join_words.specs.Joined.{Numbers, or_none, first_to, second_to, visible_to}
+use Rattle.join_numbers.specs.declared.inputs.Parts.{Parts}
+use Rattle.join_records.specs.declared.fields.Moving.{Moving}
 
 -- the numbers of the second, by its tables in the work area and the layout of the first
 abbrev pub numbers_of : List ℕ → Layout → Numbers
@@ -21,6 +23,9 @@ numbers_of A l =
       names = λ n. get_or A (name_table + n) 0;
       definitions = λ n. get_or A (definition_table + n) 0;
     }
+
+abbrev pub numbers_in : Moving → Numbers
+numbers_in m = numbers_of m.area.now m.first
 
 -- What a word of a record numbers: 0 nothing, 1 a crate, 2 a map, 3 a module, 4 a module +1 or none, 5 a name, 6 a definition, 7 and 8 what
 -- the first and the second number of a definition do, by its kind, 9 what a visibility's does. Eight words a kind, the payload first, from kind 3 on.
@@ -144,3 +149,11 @@ kinds = 11
 -- the words of both
 abbrev pub words_to : List ℕ → Layout → Layout → List ℕ → List ℕ → List ℕ
 words_to A l m W X = joined (rows (kind_to A l m W X) 0 kinds)
+
+-- the same of two parts, the words of kind k and all of them
+
+abbrev pub kind_in : Parts → List ℕ → ℕ → List ℕ
+kind_in p A k = kind_to A p.first.layout p.second.layout p.first.words.now p.second.words.now k
+
+abbrev pub words_in : Parts → List ℕ → List ℕ
+words_in p A = words_to A p.first.layout p.second.layout p.first.words.now p.second.words.now

@@ -4,6 +4,7 @@ use Rattle.std.proofs.lemmas.List.Edits.{sets}
 use Rattle.snapshot.specs.Limits.{word_limit}
 use Rattle.snapshot.specs.Layouts.{word_count}
 use Rattle.snapshot.specs.declared.layout.Layout.{Layout}
+use Rattle.join_numbers.specs.declared.inputs.Parts.{Parts}
 
 -- the target with words stored from a place on, or as it was
 unfoldable pub written : Bool → ℕ → List ℕ → List ℕ → List ℕ
@@ -24,3 +25,7 @@ pub record Wrote (write : Bool) (at : ℕ) (ws A B : List ℕ) (r : ℕ) : Type 
 pub record Whole (W : List ℕ) (l : Layout) : Type 0 where
   pub whole : word_count l ≡ length W
   pub short : length W ≤ word_limit
+
+-- those of both parts
+abbrev pub whole_in : Parts → Type 0
+whole_in p = Whole p.first.words.now p.first.layout × Whole p.second.words.now p.second.layout

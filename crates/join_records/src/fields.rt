@@ -5,7 +5,7 @@ ghost use Rattle.snapshot.specs.Kinds.{kind_number};
 ghost use Rattle.join_records.specs.Roles.{role_number};
 ghost use Rattle.join_words.specs.Joined.{or_none, first_to, second_to, visible_to};
 ghost use Rattle.join_numbers.specs.Numbered.{name_table, definition_table};
-ghost use Rattle.join_records.specs.Moves.{numbers_of, role_of, definition_of, field_to, moved_word};
+ghost use Rattle.join_records.specs.Moves.{numbers_in, role_of, definition_of, field_to, moved_word};
 
 use join_numbers::tables::Moved;
 use snapshot::ids::DefinitionKind;
@@ -15,6 +15,7 @@ use snapshot::words::{field, kind, payload};
 
 // What a word of a record numbers. `First` and `Second` say it of a definition's, by its kind; `Seen` of a visibility's; `Parent` is a
 // module's number +1, 0 for none.
+// `Nothing` is a variant: with an `Option<Role>` each word of `roles` would be wrapped, to be taken out again in `field_to`.
 #[derive(Clone, Copy)]
 enum Role {
     Nothing,
@@ -90,97 +91,110 @@ fn role_of(kind: usize, i: usize) -> Role
     all[i]
 }
 
-/// The new number of a name of the second.
-pub fn name_to(area: &[u32], n: usize) -> usize
-    ensures { result ≡ get_or area.now (name_table + n) 0 }
-{
-    field(area, Moved::NAMES, n)
+/// The second's words, the tables of its new numbers, and the layout of the first, by whose counts its other numbers move.
+// No `Records`: the layout is not that of the words.
+#[derive(Clone, Copy)]
+pub struct Moving<'w, 'a> {
+    pub words: &'w [u32],
+    pub area: &'a [u32],
+    pub first: Layout,
 }
 
-/// The new number of a definition of the second.
-pub fn definition_to(area: &[u32], n: usize) -> usize
-    ensures { result ≡ get_or area.now (definition_table + n) 0 }
-{
-    field(area, Moved::DEFINITIONS, n)
-}
+impl Moving<'_, '_> {
+    /// The new number of a name of the second.
+    // `n` is the name and no length.
+    pub fn name_to(&self, n: usize) -> usize
+        ensures { result ≡ get_or self.now.area.now (name_table + n) 0 }
+    {
+        field(self.area, Moved::NAMES, n)
+    }
 
-// The first number of a definition with its kind: a variant's parent, a builtin's name, or a module.
-fn first_to(area: &[u32], l: Layout, k: usize, n: usize) -> usize
-    requires { first_to (numbers_of area.now l) (definition_of k n) < 2 ^ 32 }
-    ensures { result ≡ first_to (numbers_of area.now l) (definition_of k n) }
-{
-    match DefinitionKind::of(k) {
-        Some(DefinitionKind::Variant) => definition_to(area, n),
-        Some(DefinitionKind::Builtin) => name_to(area, n),
-        _ => l.modules + n,
+    /// The new number of a definition of the second.
+    // `n` is the definition and no length.
+    pub fn definition_to(&self, n: usize) -> usize
+        ensures { result ≡ get_or self.now.area.now (definition_table + n) 0 }
+    {
+        field(self.area, Moved::DEFINITIONS, n)
     }
-}
 
-// The second: a variant's name, or 0.
-fn second_to(area: &[u32], l: Layout, k: usize, n: usize) -> usize
-    ensures { result ≡ second_to (numbers_of area.now l) (definition_of k n) }
-{
-    if DefinitionKind::of(k) == Some(DefinitionKind::Variant) {
-        return name_to(area, n);
+    // The first number of a definition with its kind: a variant's parent, a builtin's name, or a module.
+    fn first_to(&self, k: usize, n: usize) -> usize
+        requires { first_to (numbers_in self.now) (definition_of k n) < 2 ^ 32 }
+        ensures { result ≡ first_to (numbers_in self.now) (definition_of k n) }
+    {
+        match DefinitionKind::of(k) {
+            Some(DefinitionKind::Variant) => self.definition_to(n),
+            Some(DefinitionKind::Builtin) => self.name_to(n),
+            _ => self.first.modules + n,
+        }
     }
-    n
-}
 
-// The number of a visibility: none, a crate's, or a module's.
-fn seen_to(area: &[u32], l: Layout, v: usize, n: usize) -> usize
-    requires { visible_to (numbers_of area.now l) v n < 2 ^ 32 }
-    ensures { result ≡ visible_to (numbers_of area.now l) v n }
-{
-    if v == 0 {
-        return n;
+    // The second: a variant's name, or 0.
+    fn second_to(&self, k: usize, n: usize) -> usize
+        ensures { result ≡ second_to (numbers_in self.now) (definition_of k n) }
+    {
+        if DefinitionKind::of(k) == Some(DefinitionKind::Variant) {
+            return self.name_to(n);
+        }
+        n
     }
-    if v == 1 {
-        return l.crates + n;
-    }
-    l.modules + n
-}
 
-// A module's number +1, 0 for none.
-fn parent_to(area: &[u32], l: Layout, n: usize) -> usize
-    requires { or_none (numbers_of area.now l).modules n < 2 ^ 32 }
-    ensures { result ≡ or_none (numbers_of area.now l).modules n }
-{
-    if n == 0 {
-        return 0;
+    // The number of a visibility: none, a crate's, or a module's.
+    fn seen_to(&self, v: usize, n: usize) -> usize
+        requires { visible_to (numbers_in self.now) v n < 2 ^ 32 }
+        ensures { result ≡ visible_to (numbers_in self.now) v n }
+    {
+        if v == 0 {
+            return n;
+        }
+        if v == 1 {
+            return self.first.crates + n;
+        }
+        self.first.modules + n
     }
-    l.modules + n
-}
 
-// A word moved by what it numbers, in a record with that payload and that fourth argument.
-fn field_to(area: &[u32], l: Layout, p: usize, v: usize, role: Role, n: usize) -> usize
-    requires { field_to (numbers_of area.now l) p v (role_number role) n < 2 ^ 32 }
-    ensures { result ≡ field_to (numbers_of area.now l) p v (role_number role) n }
-{
-    match role {
-        Role::Nothing => n,
-        Role::Crate => l.crates + n,
-        Role::Map => l.maps + n,
-        Role::Module => l.modules + n,
-        Role::Parent => parent_to(area, l, n),
-        Role::Name => name_to(area, n),
-        Role::Definition => definition_to(area, n),
-        Role::First => first_to(area, l, p, n),
-        Role::Second => second_to(area, l, p, n),
-        Role::Seen => seen_to(area, l, v, n),
+    // A module's number +1, 0 for none. Both are words of the format, so neither is an `Option`.
+    fn parent_to(&self, n: usize) -> usize
+        requires { or_none (numbers_in self.now).modules n < 2 ^ 32 }
+        ensures { result ≡ or_none (numbers_in self.now).modules n }
+    {
+        if n == 0 {
+            return 0;
+        }
+        self.first.modules + n
     }
-}
 
-/// Word i of the record with its head at a place, moved.
-pub fn moved_word(words: &[u32], area: &[u32], l: Layout, at: usize, i: usize) -> usize
-    requires { moved_word (numbers_of area.now l) words.now at i < 2 ^ 32 }
-    ensures { result ≡ moved_word (numbers_of area.now l) words.now at i }
-{
-    let k = kind(words, at);
-    let p = payload(words, at);
-    let v = field(words, at, 4);
-    let role = role_of(k, i);
-    if i == 0 {
-        return k * 268435456 + field_to(area, l, p, v, role, p);
+    // A word moved by what it numbers, in a record with that payload and that fourth argument.
+    fn field_to(&self, p: usize, v: usize, role: Role, n: usize) -> usize
+        requires { field_to (numbers_in self.now) p v (role_number role) n < 2 ^ 32 }
+        ensures { result ≡ field_to (numbers_in self.now) p v (role_number role) n }
+    {
+        match role {
+            Role::Nothing => n,
+            Role::Crate => self.first.crates + n,
+            Role::Map => self.first.maps + n,
+            Role::Module => self.first.modules + n,
+            Role::Parent => self.parent_to(n),
+            Role::Name => self.name_to(n),
+            Role::Definition => self.definition_to(n),
+            Role::First => self.first_to(p, n),
+            Role::Second => self.second_to(p, n),
+            Role::Seen => self.seen_to(v, n),
+        }
     }
-    field_to(area, l, p, v, role, field(words, at, i))
+
+    /// Word i of the record with its head at a place, moved.
+    pub fn moved_word(&self, at: usize, i: usize) -> usize
+        requires { moved_word (numbers_in self.now) self.now.words.now at i < 2 ^ 32 }
+        ensures { result ≡ moved_word (numbers_in self.now) self.now.words.now at i }
+    {
+        let k = kind(self.words, at);
+        let p = payload(self.words, at);
+        let v = field(self.words, at, 4);
+        let role = role_of(k, i);
+        if i == 0 {
+            return k * 268435456 + self.field_to(p, v, role, p);
+        }
+        self.field_to(p, v, role, field(self.words, at, i))
+    }
 }

@@ -1,15 +1,18 @@
 //! The words of both written to a target, or only counted: one walk for both.
 //! C lends the target and nothing is allocated: words are put at a place, and the place after them is answered.
 //! `write` is the flag of `Space` and `Wrote`, counting where it is false; two variants in its place would say the same.
+//! Target, place and flag are three parameters: of a struct that holds the target each function would promise too that its loan is still the same.
 ghost use Rattle.std.specs.Prelude.{◌≤◌, ◌<◌, ◌≡◌, length};
 ghost use Rattle.snapshot.specs.Limits.{word_limit};
 ghost use Rattle.snapshot.specs.Layouts.{word_count};
-ghost use Rattle.join_records.specs.Moves.{numbers_of, moved_at, kept_at, kept_words, moved_run, run_of, base_of, kind_to, words_to, kinds};
-ghost use Rattle.join_records.specs.Writes.{Space, Wrote, Whole};
+ghost use Rattle.join_records.specs.Moves.{numbers_in, moved_at, kept_at, kept_words, moved_run, run_of, base_of, kind_in, words_in, kinds};
+ghost use Rattle.join_records.specs.Writes.{Space, Wrote, whole_in};
 
-use crate::fields::{definition_to, moved_word, name_to};
+use crate::fields::Moving;
+use join_numbers::inputs::Parts;
 use snapshot::kind::{Kind, Size, arguments};
 use snapshot::layout::Layout;
+use snapshot::records::Records;
 use snapshot::words::kind;
 
 // Those whose words are put one after the other; modules stand with their maps.
@@ -29,83 +32,74 @@ fn copy(words: &[u32], from: usize, end: usize, target: &mut [u32], to: usize, w
 }
 
 // Puts the record with its head at a place, moved.
-fn put_record(
-    words: &[u32],
-    area: &[u32],
-    l: Layout,
-    at: usize,
-    target: &mut [u32],
-    to: usize,
-    write: bool,
-) -> usize
-    requires { Space write to (moved_at (numbers_of area.now l) words.now at) target.old }
-    ensures { Wrote write to (moved_at (numbers_of area.now l) words.now at) target.old
+fn put_record(second: &Moving, at: usize, target: &mut [u32], to: usize, write: bool) -> usize
+    requires { Space write to (moved_at (numbers_in second.now) second.now.words.now at) target.old }
+    ensures { Wrote write to (moved_at (numbers_in second.now) second.now.words.now at) target.old
         target.new result }
 {
-    let n = 1 + arguments(words, at);
+    let n = 1 + arguments(second.words, at);
     if !write {
         return to + n;
     }
     for i in 0..n {
-        target[to + i] = moved_word(words, area, l, at, i) as u32;
+        target[to + i] = second.moved_word(at, i) as u32;
     }
     to + n
 }
 
 // Whether record n of its kind is new.
-fn is_kept(words: &[u32], area: &[u32], l: Layout, at: usize, n: usize) -> bool
-    ensures { result ≡ kept_at area.now l words.now at n }
+fn is_kept(second: &Moving, at: usize, n: usize) -> bool
+    ensures { result ≡ kept_at second.now.area.now second.now.first second.now.words.now at n }
 {
-    let k = kind(words, at);
+    let k = kind(second.words, at);
     if k == Kind::Name as usize {
-        return l.names <= name_to(area, n);
+        return second.first.names <= second.name_to(n);
     }
     if k == Kind::Definition as usize {
-        return l.definitions <= definition_to(area, n);
+        return second.first.definitions <= second.definition_to(n);
     }
     true
 }
 
 // Puts it, if it is.
 fn put_kept(
-    words: &[u32],
-    area: &[u32],
-    l: Layout,
+    second: &Moving,
     at: usize,
     n: usize,
     target: &mut [u32],
     to: usize,
     write: bool,
 ) -> usize
-    requires { Space write to (kept_words area.now l words.now at n) target.old }
-    ensures { Wrote write to (kept_words area.now l words.now at n) target.old target.new result }
+    requires { Space write to (kept_words second.now.area.now second.now.first second.now.words.now at n) target.old }
+    ensures { Wrote write to (kept_words second.now.area.now second.now.first second.now.words.now at n) target.old
+        target.new result }
 {
-    if !is_kept(words, area, l, at, n) {
+    if !is_kept(second, at, n) {
         return to;
     }
-    put_record(words, area, l, at, target, to, write)
+    put_record(second, at, target, to, write)
 }
 
 // Puts the new records from one place to another, moved.
+// `while`: records differ in size, so the place of the next one is read.
 fn put_moved(
-    words: &[u32],
-    area: &[u32],
-    l: Layout,
+    second: &Moving,
     from: usize,
     end: usize,
     target: &mut [u32],
     to: usize,
     write: bool,
 ) -> usize
-    requires { (end ≤ word_limit) × Space write to (moved_run area.now l words.now from end) target.old }
-    ensures { Wrote write to (moved_run area.now l words.now from end) target.old target.new result }
+    requires { (end ≤ word_limit) × Space write to (moved_run second.now.area.now second.now.first second.now.words.now from end) target.old }
+    ensures { Wrote write to (moved_run second.now.area.now second.now.first second.now.words.now from end) target.old
+        target.new result }
 {
     let mut at = from;
     let mut n = 0;
     let mut t = to;
     while at < end {
-        t = put_kept(words, area, l, at, n, target, t, write);
-        at = at + 1 + arguments(words, at);
+        t = put_kept(second, at, n, target, t, write);
+        at = at + 1 + arguments(second.words, at);
         n += 1;
     }
     t
@@ -135,53 +129,45 @@ fn base(l: Layout, k: usize) -> usize
 
 // Puts the words of kind k.
 fn put_kind(
-    first: &[u32],
-    second: &[u32],
+    parts: &Parts,
     area: &[u32],
-    l: Layout,
-    m: Layout,
     k: usize,
     target: &mut [u32],
     to: usize,
     write: bool,
 ) -> usize
-    requires whole { Whole first.now l × Whole second.now m × (k < kinds) }
-    requires space { Space write to (kind_to area.now l m first.now second.now k) target.old }
-    ensures { Wrote write to (kind_to area.now l m first.now second.now k) target.old
-        target.new result }
+    requires whole { whole_in parts.now × (k < kinds) }
+    requires space { Space write to (kind_in parts.now area.now k) target.old }
+    ensures { Wrote write to (kind_in parts.now area.now k) target.old target.new result }
 {
-    let t = copy(first, base(l, k), base(l, k + 1), target, to, write);
-    put_moved(
-        second,
-        area,
-        l,
-        base(m, k),
-        base(m, k + 1),
+    let Records { words, layout, .. } = parts.first;
+    let t = copy(
+        words,
+        base(layout, k),
+        base(layout, k + 1),
         target,
-        t,
+        to,
         write,
-    )
+    );
+    let second = Moving {
+        words: parts.second.words,
+        area,
+        first: layout,
+    };
+    let its = parts.second.layout;
+    put_moved(&second, base(its, k), base(its, k + 1), target, t, write)
 }
 
-/// Puts the words of both at the front of the target, if it is to write, and answers how many they are: `l` is the layout of the first, `m`
-/// of the second, and the work area has the new numbers of the second's names and definitions.
-pub fn put_kinds(
-    first: &[u32],
-    second: &[u32],
-    area: &[u32],
-    l: Layout,
-    m: Layout,
-    target: &mut [u32],
-    write: bool,
-) -> usize
-    requires whole { Whole first.now l × Whole second.now m }
-    requires space { Space write 0 (words_to area.now l m first.now second.now) target.old }
-    ensures { Wrote write 0 (words_to area.now l m first.now second.now) target.old
-        target.new result }
+/// Puts the words of both at the front of the target, if it is to write, and answers how many they are: the work area has the new numbers of the
+/// second's names and definitions.
+pub fn put_kinds(parts: &Parts, area: &[u32], target: &mut [u32], write: bool) -> usize
+    requires whole { whole_in parts.now }
+    requires space { Space write 0 (words_in parts.now area.now) target.old }
+    ensures { Wrote write 0 (words_in parts.now area.now) target.old target.new result }
 {
     let mut to = 0;
     for k in 0..KINDS {
-        to = put_kind(first, second, area, l, m, k, target, to, write);
+        to = put_kind(parts, area, k, target, to, write);
     }
     to
 }

@@ -2,9 +2,8 @@
 //! In bytes that C lends, for want of a heap; what each piece adds at most is a clause, which a Display does not have.
 ghost use Rattle.std.specs.Prelude.{◌++◌, ℕ, ◌+◌, ◌≤◌, length};
 ghost use Rattle.snapshot.specs.Limits.{line_limit};
-ghost use Rattle.snapshot.specs.Records.{Snapshot};
-ghost use Rattle.snapshot.specs.Layouts.{snap_of};
-ghost use Rattle.accept.specs.Post.{Reads};
+ghost use Rattle.snapshot.specs.Records as lists;
+ghost use Rattle.accept.specs.Opened.{snap_in};
 ghost use Rattle.printing.specs.Output.{Put};
 ghost use Rattle.find_path.specs.Line.{bytes_of, decimal, joined, line_parts, line_in};
 ghost use Rattle.find_path.specs.Report.{refused};
@@ -12,10 +11,10 @@ ghost use Rattle.find_path.specs.Report.{refused};
 use crate::edition::edition_in;
 use crate::path::put_path;
 use crate::text::put_number;
+use accept::opened::Snapshot;
 use find_path::{Outcome, Report};
 use printing::output::put;
 use snapshot::ids::ModuleId;
-use snapshot::layout::Layout;
 
 /// A number of bytes.
 pub struct LineBytes;
@@ -38,67 +37,46 @@ fn put_meter(out: &mut [u8], at: usize, charges: usize, empty: usize) -> usize
 }
 
 // Puts the outcome, and after a blank the path, `-` or the number.
-fn put_outcome(
-    out: &mut [u8],
-    words: &[u32],
-    area: &[u32],
-    l: Layout,
-    edition: usize,
-    r: Report,
-) -> usize
-    requires { Reads words.now area.now l × (4126 ≤ length out.old) × (r.count ≤ 16) }
-    ensures put { Put out.old 0 (joined (bytes_of " ") (line_parts (snap_of words.now area.now l) edition r))
+fn put_outcome(out: &mut [u8], db: &Snapshot, edition: usize, r: Report) -> usize
+    requires { (4126 ≤ length out.old) × (r.count ≤ 16) }
+    ensures put { Put out.old 0 (joined (bytes_of " ") (line_parts (snap_in db.now) edition r))
         out.new result }
     ensures upper_bound { result ≤ 4126 }
 {
     let names = r.names;
     if r.outcome == Outcome::Found as usize {
         let a = put(out, 0, b"found ");
-        return put_path(out, a, words, area, l, edition, r.kind, &names[..r.count]);
+        return put_path(out, a, db, edition, r.kind, &names[..r.count]);
     }
     if r.outcome == Outcome::None as usize {
         return put(out, 0, b"none -");
     }
     if r.outcome == Outcome::Misleads as usize {
         let a = put(out, 0, b"misleads ");
-        return put_path(out, a, words, area, l, edition, r.kind, &names[..r.count]);
+        return put_path(out, a, db, edition, r.kind, &names[..r.count]);
     }
     let b = put(out, 0, b"refused ");
     put_number(out, b, r.number)
 }
 
 /// Puts the line of a report, as it is written in a module, at the front, without its end, and answers its length.
-pub fn put_bare(
-    out: &mut [u8],
-    words: &[u32],
-    area: &[u32],
-    l: Layout,
-    from: ModuleId,
-    r: Report,
-) -> usize
-    requires { Reads words.now area.now l × (4168 ≤ length out.old) × (r.count ≤ 16) }
-    ensures put { Put out.old 0 (line_in (snap_of words.now area.now l) from.0 r) out.new result }
+pub fn put_bare(out: &mut [u8], db: &Snapshot, from: ModuleId, r: Report) -> usize
+    requires { (4168 ≤ length out.old) × (r.count ≤ 16) }
+    ensures put { Put out.old 0 (line_in (snap_in db.now) from.0 r) out.new result }
     ensures upper_bound { result ≤ 4168 }
 {
-    let edition = edition_in(words, area, l, from);
-    let a = put_outcome(out, words, area, l, edition, r);
+    let edition = edition_in(db, from);
+    let a = put_outcome(out, db, edition, r);
     put_meter(out, a, r.charges, r.empty)
 }
 
 /// Puts the line of a report, as it is written in a module, and its end at the front, and answers its length.
-pub fn put_line(
-    out: &mut [u8],
-    words: &[u32],
-    area: &[u32],
-    l: Layout,
-    from: ModuleId,
-    r: Report,
-) -> usize
-    requires { Reads words.now area.now l × (line_limit ≤ length out.old) × (r.count ≤ 16) }
-    ensures { Put out.old 0 (line_in (snap_of words.now area.now l) from.0 r ++ bytes_of "\n")
+pub fn put_line(out: &mut [u8], db: &Snapshot, from: ModuleId, r: Report) -> usize
+    requires { (line_limit ≤ length out.old) × (r.count ≤ 16) }
+    ensures { Put out.old 0 (line_in (snap_in db.now) from.0 r ++ bytes_of "\n")
         out.new result }
 {
-    let a = put_bare(out, words, area, l, from, r);
+    let a = put_bare(out, db, from, r);
     put(out, a, b"\n")
 }
 
@@ -106,7 +84,7 @@ pub fn put_line(
 // By its number, which a report has as a word for C.
 pub fn put_refusal(out: &mut [u8], number: usize) -> usize
     requires { line_limit ≤ length out.old }
-    ensures { (s : Snapshot) (from : ℕ) → Put out.old 0 (line_in s from (refused number) ++ bytes_of "\n") out.new result }
+    ensures { (s : lists.Snapshot) (from : ℕ) → Put out.old 0 (line_in s from (refused number) ++ bytes_of "\n") out.new result }
 {
     let a = put(out, 0, b"refused ");
     let b = put_number(out, a, number);

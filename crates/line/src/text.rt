@@ -1,16 +1,15 @@
 //! The text of a name and of a number.
 //! The bytes are lent by C and there is no heap, so they are copied out of the words one by one.
 ghost use Rattle.std.specs.Prelude.{◌≡◌, ◌+◌, ◌*◌, ◌≤◌, ◌<◌, length, take, get_or};
-ghost use Rattle.snapshot.specs.Layouts.{snap_of};
-ghost use Rattle.accept.specs.Post.{Reads};
+ghost use Rattle.accept.specs.Opened.{snap_in};
 ghost use Rattle.printing.specs.Output.{Put};
 ghost use Rattle.find_path.specs.Line.{unpacked, written_of, decimal};
 
+use accept::opened::Snapshot;
 use keywords::is_raw;
 use path_rules::choices::name_len;
 use printing::output::{Digits, put, put_digits};
 use snapshot::ids::Name;
-use snapshot::layout::Layout;
 use snapshot::table::name_head;
 use snapshot::text::text_of;
 use snapshot::words::word;
@@ -50,25 +49,17 @@ fn put_text(out: &mut [u8], at: usize, text: &[u32], n: usize) -> usize
 }
 
 /// Puts the text of a name as an edition writes it; a number that is no name's puts nothing.
-pub(crate) fn put_name(
-    out: &mut [u8],
-    at: usize,
-    words: &[u32],
-    area: &[u32],
-    l: Layout,
-    edition: usize,
-    n: Name,
-) -> usize
-    requires { Reads words.now area.now l × (at + 255 ≤ length out.old) }
-    ensures put { Put out.old at (written_of (snap_of words.now area.now l) edition n.0) out.new result }
+pub(crate) fn put_name(out: &mut [u8], at: usize, db: &Snapshot, edition: usize, n: Name) -> usize
+    requires { at + 255 ≤ length out.old }
+    ensures put { Put out.old at (written_of (snap_in db.now) edition n.0) out.new result }
     ensures upper_bound { result ≤ at + 255 }
 {
-    if l.names <= n.0 {
+    if db.records.layout.names <= n.0 {
         return at;
     }
-    let bytes = name_len(words, area, l, n);
-    let text = text_of(words, area, n);
-    let raw = is_raw(words, name_head(area, n), edition);
+    let bytes = name_len(db, n);
+    let text = text_of(db.records.words, db.area, n);
+    let raw = is_raw(db.records.words, name_head(db.area, n), edition);
     if raw {
         let to = put(out, at, b"r#");
         return put_text(out, to, text, bytes);

@@ -1,5 +1,6 @@
 -- Runs of modules and levels as words of the work area.
 use Rattle.std.specs.Prelude.{ℕ, zero, suc, ◌+◌, ◌-◌, ◌*◌, ◌/◌, ◌%◌, ◌≤◌, ◌<◌, List, [], ◌∷◌, Bool, true, false, eqb, get_or}
+use Rattle.std.specs.Coded.{×_prop, le_prop}
 use Rattle.snapshot.specs.Lists.{rows}
 use Rattle.snapshot.specs.Limits.{definition_limit, namespace_limit}
 use Rattle.hir_def.specs.Items.{defined_item, module_item}
@@ -11,6 +12,10 @@ use Rattle.find_path.specs.Walk.{Level, has}
 abbrev pub Small : Item → Type 0
 Small (Mod m) = m.0 < definition_limit
 Small (Def ns d) = (d.0 < definition_limit) × (ns.0 ≤ namespace_limit)
+
+pub small_prop : (item : Item) → IsProp (Small item)
+small_prop (Mod m) = le_prop
+small_prop (Def ns d) = ×_prop le_prop le_prop
 
 -- an item as a word: the namespace is the remainder by 4, and 3 for a module
 unfoldable pub code_of : Item → ℕ
@@ -37,6 +42,7 @@ levels_of A place (suc d) =
     ∷ levels_of A (get_or A (place - 2) 0) d
 
 -- the d levels lie one below the other, and below top
+-- (a clause and no type: the area is written between, and a value with this fact would have to be made anew after each write)
 unfoldable pub Chain : List ℕ → ℕ → ℕ → ℕ → Type 0
 Chain A place zero top = Unit {0}
 Chain A place (suc d) top =

@@ -2,21 +2,20 @@
 ghost use Rattle.std.specs.Prelude.{◌≡◌, [], ◌∷◌, ℕ, ◌+◌, ◌-◌, ◌<◌, ◌≤◌, ◌&&◌, eqb, get_or, length};
 ghost use Rattle.snapshot.specs.Limits.{module_limit};
 ghost use Rattle.find_path.specs.Walk.{has as has_in, visited as visited_in};
-ghost use Rattle.local_levels.specs.Levels.{Small, code_of, run_at, levels_of, Chain};
+ghost use Rattle.local_levels.specs.Levels.{code_of, run_at, levels_of, Chain};
 ghost use Rattle.local_levels.specs.Each.{AnyBy};
 ghost use Rattle.local_levels.specs.Post.{Ready, Pushed};
 
-use crate::Stack;
+use crate::{Sought, Stack};
 use hir_def::Item;
 use snapshot::ids::ModuleId;
 use snapshot::words::word;
 
 // An item as one word.
-pub fn code_of(item: Item) -> usize
-    requires { Small item }
-    ensures { (result ≡ code_of item) × (result < 8192) }
+pub fn code_of(sought: Sought) -> usize
+    ensures { (result ≡ code_of sought.item) × (result < 8192) }
 {
-    match item {
+    match sought.item {
         Item::Mod(m) => 4 * m.0 + 3,
         Item::Def(ns, d) => 4 * d.0 + ns.0,
     }
@@ -60,21 +59,27 @@ fn has_taken(area: &[u32], p: usize, code: usize, m: ModuleId) -> bool
 }
 
 // Whether a level is a search for the item that has taken m.
-fn visited(area: &[u32], s: Stack, item: Item, m: ModuleId) -> bool
-    requires { Chain area.now s.place s.depth (length area.now) × Small item }
-    ensures { result ≡ visited_in (levels_of area.now s.place s.depth) item m.0 }
+fn visited(area: &[u32], s: Stack, sought: Sought, m: ModuleId) -> bool
+    requires { Chain area.now s.place s.depth (length area.now) }
+    ensures { result ≡ visited_in (levels_of area.now s.place s.depth) sought.item m.0 }
 {
-    let code = code_of(item);
+    let code = code_of(sought);
     let test = |p| has_taken(area, p, code, m);
     any_level(area, s, test)
 }
 
 // One module goes to the end of the run of n modules at the top, unless it is visited or on it.
-pub(crate) fn push_module(area: &mut [u32], s: Stack, n: usize, item: Item, m: ModuleId) -> usize
-    requires { Ready area.old s n × Small item × (m.0 < module_limit) }
-    ensures { Pushed area.old s n item (m.0 ∷ []) area.new result }
+pub(crate) fn push_module(
+    area: &mut [u32],
+    s: Stack,
+    n: usize,
+    sought: Sought,
+    m: ModuleId,
+) -> usize
+    requires { Ready area.old s n × (m.0 < module_limit) }
+    ensures { Pushed area.old s n sought.item (m.0 ∷ []) area.new result }
 {
-    if visited(area, s, item, m) {
+    if visited(area, s, sought, m) {
         return n;
     }
     if has(area, s.top, n, m) {

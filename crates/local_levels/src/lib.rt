@@ -1,8 +1,19 @@
 //! What a local search keeps in the work area: its level, with the run of modules that it takes.
 #![tactic(auto)]
 
+ghost use Rattle.local_levels.specs.Levels.{Small, small_prop};
+
 pub mod levels;
 pub mod locations;
+
+use hir_def::Item;
+
+/// The item that a local search is for: its level keeps it as one word.
+#[derive(Clone, Copy)]
+pub struct Sought {
+    pub item: Item,
+    ghost small: { Small item } by { small_prop item },
+}
 
 // The local searches under way, as levels in the work area: the first free word, the place of the last level's run, and how
 // many there are.

@@ -181,10 +181,7 @@ pub record Nesting (W : List ℕ) (l : Layout) (S : Snapshot) (x : FindPathCtx) 
       ≡ each_location S x (search_local S x) left (levels_of A₁ s.place s.depth) item (take k (run_at A₁ (s.top + 3) n)) best
       (drop k (run_at A₁ (s.top + 3) n))
 
--- the stack while the run is gathered, and one level up
-abbrev pub above : Stack → Stack
-above s = record { top = s.top + 3; place = s.place; depth = s.depth }
-
+-- the stack one level up
 abbrev pub upper : Stack → ℕ → Stack
 upper s n = record { top = s.top + 3 + n; place = s.top + 3; depth = s.depth + 1 }
 

@@ -24,6 +24,7 @@ level_size = 3 + module_limit
 
 -- The arguments of a local search of that length: the words of each level that it can open, the numbers of the modules, the chains of the
 -- records and the walk below them, and the rows above.
+-- (a clause and no type: the area is written between, and a value with this fact would have to be made anew after each write)
 pub record Searchable (W A : List ℕ) (l : Layout) (x : FindPathCtx) (left : ℕ) (s : Stack) : Type 0 where
   pub reads : Reads W A l
   pub from : x.from.0 < l.modules

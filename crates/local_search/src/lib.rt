@@ -3,29 +3,30 @@
 
 ghost use Rattle.std.specs.Prelude.{◌≡◌, false, ◌-◌, ◌≤◌, ◌<◌, ◌^◌};
 ghost use Rattle.snapshot.specs.Limits.{path_limit};
-ghost use Rattle.snapshot.specs.Layouts.{snap_of};
-ghost use Rattle.accept.specs.Post.{Reads};
+ghost use Rattle.snapshot.specs.Laid.{snap_by};
+ghost use Rattle.accept.specs.Opened.{snap_in};
 ghost use Rattle.find_path.specs.Rules.{module_rules};
 ghost use Rattle.find_path.specs.Local.{importable_name, location as location_of, calculate_best_path_local};
 ghost use Rattle.find_path.specs.Search.{search_local, best_local};
 ghost use Rattle.find_path.specs.Conditions.{Prepared, Asked, Chosen};
 ghost use Rattle.distances.specs.Distances.{distance, Bounds};
-ghost use Rattle.local_levels.specs.Levels.{Small, levels_of};
+ghost use Rattle.local_levels.specs.Levels.{levels_of};
 ghost use Rattle.tight_rows.specs.Post.{Tight};
 ghost use Rattle.local_search.specs.Post.{Ruling, Searchable, Answered};
 
+use accept::opened::Snapshot;
 use distances::{Distances, set_distances};
 use find_path::{Choice, FindPathCtx};
 use hir_def::Item;
-use local_levels::Stack;
 use local_levels::levels::code_of;
+use local_levels::{Sought, Stack};
 use path_offers::offers::{importable_name, offer_entry};
 use path_rules::choices::{length_left, nothing};
 use path_rules::rules::module_rules;
 use scope_index::index_scopes;
-use snapshot::ids::ModuleId;
-use snapshot::layout::Layout;
+use snapshot::ids::{Area, ModuleId};
 use snapshot::record::scope_owner;
+use snapshot::records::Records;
 use snapshot::words::word;
 use tight_rows::{Rows, clear_rows, from_row, is_tight, row_of, row_place};
 use walk_once::{Walk, locations, take_walk};
@@ -33,95 +34,105 @@ use walk_once::{Walk, locations, take_walk};
 // One module of the run: its path with the item's name there, against the choice so far, unless the module is too far.
 #[cycle(find_path_for_module_local_local_at_location_tight_at)]
 fn location(
-    words: &[u32],
+    records: &Records,
     area: &mut [u32],
-    l: Layout,
     x: FindPathCtx,
     left: usize,
     best: Choice,
-    item: Item,
+    sought: Sought,
     m: ModuleId,
     s: Stack,
 ) -> Choice
-    requires { (0 < left) × Searchable words.now area.old l x (left - 1) s × (m.0 < l.modules) × (best.count < 2 ^ 32) }
-    ensures { Answered words.now area.old l x s.top
-        (location_of (snap_of words.now area.old l) x (search_local (snap_of words.now area.old l) x)
+    requires { (0 < left) × Searchable records.now.words.now area.old records.now.layout x (left - 1) s × (m.0 < records.now.layout.modules) × (best.count < 2 ^ 32) }
+    ensures { Answered records.now.words.now area.old records.now.layout x s.top
+        (location_of (snap_by records.now area.old) x (search_local (snap_by records.now area.old) x)
         left (levels_of area.old s.place s.depth) best m.0
-        (importable_name (snap_of words.now area.old l) x item m.0)) area.new result }
+        (importable_name (snap_by records.now area.old) x sought.item m.0)) area.new result }
 {
     let j = length_left(left, best);
     if j < word(area, Distances::AT + m.0) {
         return best;
     }
-    let a = importable_name(words, area, l, x, item, m);
+    let db = Snapshot {
+        records: *records,
+        area,
+    };
+    let a = importable_name(&db, x, sought.item, m);
     let Some(h) = a else {
         return best;
     };
-    let c = find_path_for_module_local(words, area, l, x, j, m, s);
-    offer_entry(words, area, l, x, best, c, h)
+    let c = find_path_for_module_local(records, area, x, j, m, s);
+    let db = Snapshot {
+        records: *records,
+        area,
+    };
+    offer_entry(&db, x, best, c, h)
 }
 
 // The rules' answer for a module, if it has one: a module with a number above 1 has none.
-fn rules_at(words: &[u32], area: &[u32], l: Layout, x: FindPathCtx, m: ModuleId) -> Choice
-    requires { Reads words.now area.now l × (x.from.0 < l.modules) × (m.0 < l.modules)
-        × Bounds (snap_of words.now area.now l) x l.modules (distance area.now) }
-    ensures { Ruling (module_rules (snap_of words.now area.now l) x false m.0) result }
+fn rules_at(db: &Snapshot, x: FindPathCtx, m: ModuleId) -> Choice
+    requires { (x.from.0 < db.now.records.layout.modules) × (m.0 < db.now.records.layout.modules) × Bounds (snap_in db.now) x db.now.records.layout.modules (distance db.now.area.now) }
+    ensures { Ruling (module_rules (snap_in db.now) x false m.0) result }
 {
-    if 1 < word(area, Distances::AT + m.0) {
+    if 1 < word(db.area, Distances::AT + m.0) {
         return nothing();
     }
-    module_rules(words, area, l, x, false, m)
+    module_rules(db, x, false, m)
 }
 
 // The module search without externs.
 #[cycle(find_path_for_module_local_local_at_location_tight_at)]
 fn find_path_for_module_local(
-    words: &[u32],
+    records: &Records,
     area: &mut [u32],
-    l: Layout,
     x: FindPathCtx,
     left: usize,
     m: ModuleId,
     s: Stack,
 ) -> Choice
-    requires { Searchable words.now area.old l x left s × (m.0 < l.modules) }
-    ensures { Answered words.now area.old l x s.top
-        (search_local (snap_of words.now area.old l) x left (levels_of area.old s.place s.depth) m.0)
+    requires { Searchable records.now.words.now area.old records.now.layout x left s × (m.0 < records.now.layout.modules) }
+    ensures { Answered records.now.words.now area.old records.now.layout x s.top
+        (search_local (snap_by records.now area.old) x left (levels_of area.old s.place s.depth) m.0)
         area.new result }
 {
     if left == 0 {
         return nothing();
     }
-    let c = rules_at(words, area, l, x, m);
+    let db = Snapshot {
+        records: *records,
+        area,
+    };
+    let c = rules_at(&db, x, m);
     if c.found {
         return c;
     }
     if is_tight(area, s, left, m) {
-        return tight_at(words, area, l, x, left, m, s);
+        return tight_at(records, area, x, left, m, s);
     }
-    local_at(words, area, l, x, left, Item::Mod(m), s)
+    let sought = Sought { item: Item::Mod(m) };
+    local_at(records, area, x, left, sought, s)
 }
 
 // A search for a module whose answer does not depend on the levels: it is done once and kept as a row, by which it is rebuilt.
 #[cycle(find_path_for_module_local_local_at_location_tight_at)]
 fn tight_at(
-    words: &[u32],
+    records: &Records,
     area: &mut [u32],
-    l: Layout,
     x: FindPathCtx,
     left: usize,
     m: ModuleId,
     s: Stack,
 ) -> Choice
-    requires { (0 < left) × Searchable words.now area.old l x left s × (m.0 < l.modules) × Tight area.old s left m.0
-        × ((module_rules (snap_of words.now area.old l) x false m.0).found ≡ false) }
-    ensures { Answered words.now area.old l x s.top
-        (search_local (snap_of words.now area.old l) x left (levels_of area.old s.place s.depth) m.0)
+    requires { (0 < left) × Searchable records.now.words.now area.old records.now.layout x left s × (m.0 < records.now.layout.modules) × Tight area.old s left m.0
+        × ((module_rules (snap_by records.now area.old) x false m.0).found ≡ false) }
+    ensures { Answered records.now.words.now area.old records.now.layout x s.top
+        (search_local (snap_by records.now area.old) x left (levels_of area.old s.place s.depth) m.0)
         area.new result }
 {
     let row = word(area, Rows::AT + m.0);
     if row == 0 {
-        let r = local_at(words, area, l, x, left, Item::Mod(m), s);
+        let sought = Sought { item: Item::Mod(m) };
+        let r = local_at(records, area, x, left, sought, s);
         let made = row_of(r);
         area[Rows::AT + m.0] = made as u32;
         return r;
@@ -129,31 +140,34 @@ fn tight_at(
     if row == 1 {
         return nothing();
     }
-    let owner = scope_owner(words, row_place(row));
-    let c = find_path_for_module_local(words, area, l, x, left - 1, owner, s);
-    from_row(words, area, l, x, c, row)
+    let owner = scope_owner(records.words, row_place(row));
+    let c = find_path_for_module_local(records, area, x, left - 1, owner, s);
+    let db = Snapshot {
+        records: *records,
+        area,
+    };
+    from_row(&db, x, c, row)
 }
 
 // A local search: it opens a level at the top, gathers its run, and searches for each module of it one level up.
 #[cycle(find_path_for_module_local_local_at_location_tight_at)]
 fn local_at(
-    words: &[u32],
+    records: &Records,
     area: &mut [u32],
-    l: Layout,
     x: FindPathCtx,
     left: usize,
-    item: Item,
+    sought: Sought,
     s: Stack,
 ) -> Choice
-    requires { (0 < left) × Searchable words.now area.old l x left s × Small item }
-    ensures { Answered words.now area.old l x s.top
-        (calculate_best_path_local (snap_of words.now area.old l) x
-        (search_local (snap_of words.now area.old l) x) left (levels_of area.old s.place s.depth) item)
+    requires { (0 < left) × Searchable records.now.words.now area.old records.now.layout x left s }
+    ensures { Answered records.now.words.now area.old records.now.layout x s.top
+        (calculate_best_path_local (snap_by records.now area.old) x
+        (search_local (snap_by records.now area.old) x) left (levels_of area.old s.place s.depth) sought.item)
         area.new result }
 {
     let top = s.top;
     let base = top + 3;
-    let code = code_of(item);
+    let code = code_of(sought);
     area[top] = code as u32;
     area[top + 1] = s.place as u32;
     let here = Stack {
@@ -161,7 +175,7 @@ fn local_at(
         place: s.place,
         depth: s.depth,
     };
-    let n = locations(words, area, l, x.from, here, item);
+    let n = locations(records, area, x.from, here, sought);
     let up = Stack {
         top: base + n,
         place: base,
@@ -172,7 +186,7 @@ fn local_at(
         let cursor = s.top + 2;
         area[cursor] = k as u32;
         let m = word(area, base + k);
-        best = location(words, area, l, x, left, best, item, ModuleId(m), up);
+        best = location(records, area, x, left, best, sought, ModuleId(m), up);
     }
     best
 }
@@ -180,24 +194,24 @@ fn local_at(
 /// `calculate_best_path_local`: the best path to the item through the modules of the viewer's crate. Words after the tables are
 /// used as scratch.
 pub fn calculate_best_path_local(
-    words: &[u32],
-    area: &mut [u32],
-    l: Layout,
+    records: &Records,
+    area: &mut Area,
     x: FindPathCtx,
     left: usize,
     item: Item,
 ) -> Choice
-    requires { Prepared words.now area.old l x × Asked l item × (0 < left) × (left ≤ path_limit) }
-    ensures { Chosen area.old (best_local (snap_of words.now area.old l) x left item) area.new result }
+    requires { Prepared records.now.words.now area.old records.now.layout x × Asked records.now.layout item × (0 < left) × (left ≤ path_limit) }
+    ensures { Chosen area.old (best_local (snap_by records.now area.old) x left item) area.new result }
 {
-    set_distances(words, area, l, x);
-    index_scopes(words, area, l);
-    take_walk(words, area, l, x.from, item);
-    clear_rows(area, l.modules);
+    let sought = Sought { item };
+    set_distances(records, area, x);
+    index_scopes(records, area);
+    take_walk(records, area, x.from, sought);
+    clear_rows(area, records.layout.modules);
     let none = Stack {
         top: Walk::END,
         place: 0,
         depth: 0,
     };
-    local_at(words, area, l, x, left, item, none)
+    local_at(records, area, x, left, sought, none)
 }

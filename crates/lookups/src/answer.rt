@@ -1,6 +1,7 @@
 //! What a query answers.
 use std::fmt;
 
+// Two kinds of answers, neither of them an error: that is `OutOfRange`.
 #[derive(Clone, Copy, Debug, PartialEq, Eq)]
 pub enum Answer {
     Truth(bool),

@@ -1,9 +1,9 @@
 //! An accepted snapshot, asked.
 ghost use Rattle.std.specs.Prelude.{◌≡◌, ◌<◌, ◌≤◌, IfOk};
-ghost use Rattle.accept.specs.Post.{Reads};
 
 use crate::answer::{Answer, OutOfRange};
 use crate::query::{Kind, Query};
+use accept::opened::Snapshot;
 use crate_graph::extern_of;
 use hir_def::Item;
 use hir_def::items::{home_of, item_of};
@@ -12,15 +12,12 @@ use hir_def::visibility::is_visible_from;
 use item_scope::{entry_in, name_of};
 use nameres::{entry_named, occupied, scope_entry};
 use snapshot::ids::{Crate, DefinitionId, ModuleId, Name, Visibility};
-use snapshot::layout::Layout;
 use snapshot::record::{extern_name, scope_definition, scope_name};
 
-/// Words that the check accepted, with what it made of them.
+/// An accepted snapshot, and what is asked of it.
 #[derive(Clone, Copy)]
-pub struct Snapshot<'a> {
-    pub words: &'a [u32],
-    pub area: &'a [u32],
-    pub layout: Layout,
+pub struct Asked<'w, 'a> {
+    pub db: Snapshot<'w, 'a>,
 }
 
 // A number that is below a limit.
@@ -30,44 +27,39 @@ fn below(n: usize, limit: usize) -> Result<usize, OutOfRange>
     if n < limit { Ok(n) } else { Err(OutOfRange) }
 }
 
-impl Snapshot<'_> {
+impl Asked<'_, '_> {
     fn module(&self, n: usize) -> Result<ModuleId, OutOfRange>
-        ensures { IfOk result (λ m. (m.0 ≡ n) × (m.0 < self.now.layout.modules)) }
+        ensures { IfOk result (λ m. (m.0 ≡ n) × (m.0 < self.now.db.records.layout.modules)) }
     {
-        Ok(ModuleId(below(n, self.layout.modules)?))
+        Ok(ModuleId(below(n, self.db.records.layout.modules)?))
     }
 
     fn name(&self, n: usize) -> Result<Name, OutOfRange>
-        ensures { IfOk result (λ m. (m.0 ≡ n) × (m.0 < self.now.layout.names)) }
+        ensures { IfOk result (λ m. (m.0 ≡ n) × (m.0 < self.now.db.records.layout.names)) }
     {
-        Ok(Name(below(n, self.layout.names)?))
+        Ok(Name(below(n, self.db.records.layout.names)?))
     }
 
-    fn item(&self, ns: usize, d: usize) -> Result<Item, OutOfRange>
-        requires { Reads self.now.words.now self.now.area.now self.now.layout }
-    {
-        let d = below(d, self.layout.definitions)?;
-        Ok(item_of(self.words, self.layout, ns, DefinitionId(d)))
+    fn item(&self, ns: usize, d: usize) -> Result<Item, OutOfRange> {
+        let d = below(d, self.db.records.layout.definitions)?;
+        Ok(item_of(&self.db.records, ns, DefinitionId(d)))
     }
 
     // The name of an entry.
     fn name_at(&self, e: Option<usize>) -> Answer {
-        Answer::Number(e.map(|h| scope_name(self.words, h).0))
+        Answer::Number(e.map(|h| scope_name(self.db.records.words, h).0))
     }
 
     // Whether a visibility whose module is there reaches the viewer.
     fn seen(&self, kind: usize, number: usize, viewer: ModuleId) -> Answer
-        requires { Reads self.now.words.now self.now.area.now self.now.layout
-            × (viewer.0 < self.now.layout.modules) × (2 ≤ kind → number < self.now.layout.modules) }
+        requires { (viewer.0 < self.now.db.records.layout.modules) × (2 ≤ kind → number < self.now.db.records.layout.modules) }
     {
         let visibility = Visibility::of(kind, number);
-        let seen = is_visible_from(self.words, self.area, self.layout, visibility, viewer);
+        let seen = is_visible_from(&self.db, visibility, viewer);
         Answer::Truth(seen)
     }
 
-    fn visible(&self, kind: usize, number: usize, viewer: usize) -> Result<Answer, OutOfRange>
-        requires { Reads self.now.words.now self.now.area.now self.now.layout }
-    {
+    fn visible(&self, kind: usize, number: usize, viewer: usize) -> Result<Answer, OutOfRange> {
         let viewer = self.module(viewer)?;
         if 1 < kind {
             self.module(number)?;
@@ -75,107 +67,79 @@ impl Snapshot<'_> {
         Ok(self.seen(kind, number, viewer))
     }
 
-    fn name_in(&self, m: usize, ns: usize, d: usize) -> Result<Answer, OutOfRange>
-        requires { Reads self.now.words.now self.now.area.now self.now.layout }
-    {
+    fn name_in(&self, m: usize, ns: usize, d: usize) -> Result<Answer, OutOfRange> {
         let m = self.module(m)?;
         let item = self.item(ns, d)?;
-        Ok(self.name_at(name_of(self.words, self.layout, m, item).entry))
+        Ok(self.name_at(name_of(&self.db.records, m, item).entry))
     }
 
     // How many scope records the lookup of the item reads.
-    fn reads(&self, m: usize, ns: usize, d: usize, choice: Choice) -> Result<Answer, OutOfRange>
-        requires { Reads self.now.words.now self.now.area.now self.now.layout }
-    {
+    fn reads(&self, m: usize, ns: usize, d: usize, choice: Choice) -> Result<Answer, OutOfRange> {
         let m = self.module(m)?;
         let item = self.item(ns, d)?;
-        let found = entry_in(
-            self.words,
-            self.layout,
-            m,
-            item,
-            choice.declared,
-            choice.fresh,
-        );
+        let found = entry_in(&self.db.records, m, item, choice.declared, choice.fresh);
         Ok(Answer::Number(Some(found.read)))
     }
 
-    fn scope(&self, from: usize, ns: usize, d: usize, choice: Choice) -> Result<Answer, OutOfRange>
-        requires { Reads self.now.words.now self.now.area.now self.now.layout }
-    {
+    fn scope(
+        &self,
+        from: usize,
+        ns: usize,
+        d: usize,
+        choice: Choice,
+    ) -> Result<Answer, OutOfRange> {
         let from = self.module(from)?;
         let item = self.item(ns, d)?;
         let Choice { declared, fresh } = choice;
-        let e = scope_entry(
-            self.words,
-            self.area,
-            self.layout,
-            from,
-            item,
-            declared,
-            fresh,
-        );
+        let e = scope_entry(&self.db, from, item, declared, fresh);
         Ok(self.name_at(e))
     }
 
-    fn named(&self, from: usize, ns: usize, n: usize) -> Result<Answer, OutOfRange>
-        requires { Reads self.now.words.now self.now.area.now self.now.layout }
-    {
+    fn named(&self, from: usize, ns: usize, n: usize) -> Result<Answer, OutOfRange> {
         let from = self.module(from)?;
         let n = self.name(n)?;
-        let e = entry_named(self.words, self.area, self.layout, from, ns, n);
-        let d = e.map(|h| scope_definition(self.words, h).0);
+        let e = entry_named(&self.db, from, ns, n);
+        let d = e.map(|h| scope_definition(self.db.records.words, h).0);
         Ok(Answer::Number(d))
     }
 
-    fn taken(&self, from: usize, m: usize, n: usize) -> Result<Answer, OutOfRange>
-        requires { Reads self.now.words.now self.now.area.now self.now.layout }
-    {
+    fn taken(&self, from: usize, m: usize, n: usize) -> Result<Answer, OutOfRange> {
         let from = self.module(from)?;
         let m = self.module(m)?;
         let n = self.name(n)?;
-        let taken = occupied(self.words, self.area, self.layout, from, m, n);
+        let taken = occupied(&self.db, from, m, n);
         Ok(Answer::Truth(taken))
     }
 
-    fn root(&self, m: usize) -> Result<Answer, OutOfRange>
-        requires { Reads self.now.words.now self.now.area.now self.now.layout }
-    {
+    // Of one shape with `container` and `home`: what differs is the lookup, and whether it may answer nothing.
+    fn root(&self, m: usize) -> Result<Answer, OutOfRange> {
         let m = self.module(m)?;
-        let root = crate_root(self.words, self.area, self.layout, m);
+        let root = crate_root(&self.db, m);
         Ok(Answer::Number(Some(root.0)))
     }
 
-    fn container(&self, m: usize) -> Result<Answer, OutOfRange>
-        requires { Reads self.now.words.now self.now.area.now self.now.layout }
-    {
+    fn container(&self, m: usize) -> Result<Answer, OutOfRange> {
         let m = self.module(m)?;
-        let container = containing_module(self.words, self.area, self.layout, m);
+        let container = containing_module(&self.db, m);
         Ok(Answer::Number(container.map(|m| m.0)))
     }
 
-    fn extern_named(&self, c: usize, m: usize) -> Result<Answer, OutOfRange>
-        requires { Reads self.now.words.now self.now.area.now self.now.layout }
-    {
-        let c = Crate(below(c, self.layout.crates)?);
+    fn extern_named(&self, c: usize, m: usize) -> Result<Answer, OutOfRange> {
+        let c = Crate(below(c, self.db.records.layout.crates)?);
         let m = self.module(m)?;
-        let e = extern_of(self.words, self.layout, c, m);
-        let n = e.map(|h| extern_name(self.words, h).0);
+        let e = extern_of(&self.db.records, c, m);
+        let n = e.map(|h| extern_name(self.db.records.words, h).0);
         Ok(Answer::Number(n))
     }
 
-    fn home(&self, ns: usize, d: usize) -> Result<Answer, OutOfRange>
-        requires { Reads self.now.words.now self.now.area.now self.now.layout }
-    {
+    fn home(&self, ns: usize, d: usize) -> Result<Answer, OutOfRange> {
         let item = self.item(ns, d)?;
-        let home = home_of(self.words, self.layout, item);
+        let home = home_of(&self.db.records, item);
         Ok(Answer::Number(home.map(|m| m.0)))
     }
 
     /// The answer to a query.
-    pub fn answer(&self, query: Query) -> Result<Answer, OutOfRange>
-        requires { Reads self.now.words.now self.now.area.now self.now.layout }
-    {
+    pub fn answer(&self, query: Query) -> Result<Answer, OutOfRange> {
         let [a, b, c, d] = query.numbers;
         match query.kind {
             Kind::Visible => self.visible(a, b, c),
@@ -200,6 +164,7 @@ struct Choice {
     fresh: bool,
 }
 
+// No derive makes a `From`: one number of the list stands for both flags.
 impl From<usize> for Choice {
     fn from(number: usize) -> Choice {
         Choice {

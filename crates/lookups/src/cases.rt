@@ -1,21 +1,20 @@
 //! The cases of the list, each up to a full stop: a title, an equals sign, the words, a question mark and the queries, five
-//! words each. Text without an equals sign is a comment.
-ghost use Rattle.accept.specs.Post.{Reads};
-
-use crate::asked::Snapshot;
+//! words each. Text without an equals sign is a comment. A title is any bytes.
+use crate::asked::Asked;
 use crate::query::Query;
 use accept::check::{Refused, check};
+use accept::opened::Snapshot;
+use case_text::text::split_once;
 use case_text::words::words_of;
 use snapshot::ids::WordCount;
+use snapshot::records::Records;
 use std::io;
 
-fn run_queries(rt: &impl Print, snapshot: &Snapshot, queries: &[u32]) -> io::Result<()>
-    requires { Reads snapshot.now.words.now snapshot.now.area.now snapshot.now.layout }
-{
+fn run_queries(rt: &impl Print, asked: &Asked, queries: &[u32]) -> io::Result<()> {
     let (queries, _) = queries.as_chunks::<5>();
     for numbers in queries {
         let query = Query::from(*numbers);
-        match snapshot.answer(query) {
+        match asked.answer(query) {
             Ok(answer) => println!(rt; "{query}: {answer}")?,
             Err(e) => println!(rt; "{query}: {e}")?,
         }
@@ -30,33 +29,32 @@ fn judge(rt: &impl Print, words: &[u32], queries: &[u32], area: &mut [u32]) -> i
             println!(rt; "refused {number} at {at}")
         }
         Ok(layout) => {
-            let snapshot = Snapshot {
-                words,
-                area,
-                layout,
-            };
-            run_queries(rt, &snapshot, queries)
+            let records = Records { words, layout };
+            let db = Snapshot { records, area };
+            run_queries(rt, &Asked { db }, queries)
         }
     }
 }
 
-fn run_case(rt: &(impl Print + AllocGlobal), case: &str, area: &mut [u32]) -> io::Result<()> {
-    let Some((title, text)) = case.split_once('=') else {
+fn run_case(rt: &(impl Print + AllocGlobal), case: &[u8], area: &mut [u32]) -> io::Result<()> {
+    let Some((title, text)) = split_once(case, b'=') else {
         return Ok(());
     };
-    let Some((words, queries)) = text.split_once('?') else {
+    let Some((words, queries)) = split_once(text, b'?') else {
         return Ok(());
     };
-    println!(rt; "{title}")?;
-    let words = words_of(rt.alloc(), words.as_bytes(), WordCount::SNAPSHOT)?;
-    let queries = words_of(rt.alloc(), queries.as_bytes(), WordCount::SNAPSHOT)?;
+    rt.write_all(title)?;
+    println!(rt)?;
+    let words = words_of(rt.alloc(), words, WordCount::SNAPSHOT)?;
+    let queries = words_of(rt.alloc(), queries, WordCount::SNAPSHOT)?;
     judge(rt, &words, &queries, area)
 }
 
-/// Checks and asks each case of the list; text after the last full stop is none.
-pub fn run(rt: &(impl Print + AllocGlobal), text: &str, area: &mut [u32]) -> io::Result<()> {
-    for piece in text.split_inclusive('.') {
-        if let Some(case) = piece.strip_suffix('.') {
+/// Checks and asks each case of the list; bytes after the last full stop are none.
+// A case ends with a full stop, which is none of it; `refusals::run` hands on whole lines. One of both would take the end and a closure.
+pub fn run(rt: &(impl Print + AllocGlobal), text: &[u8], area: &mut [u32]) -> io::Result<()> {
+    for piece in text.split_inclusive(|b| *b == b'.') {
+        if let Some(case) = piece.strip_suffix(b".") {
             run_case(rt, case, area)?;
         }
     }

@@ -2,6 +2,7 @@
 use std::fmt;
 
 /// What is asked.
+// `Unknown` is a variant, since a query of no kind is printed like the others, with its numbers.
 #[derive(Clone, Copy, Debug, PartialEq, Eq)]
 pub enum Kind {
     Visible,
@@ -17,6 +18,7 @@ pub enum Kind {
     Unknown,
 }
 
+// A `match` on the numbers of the list, as in `DefinitionKind::of` of `snapshot`.
 impl From<u32> for Kind {
     fn from(code: u32) -> Kind {
         match code {
@@ -61,6 +63,7 @@ pub struct Query {
     pub numbers: [usize; 4],
 }
 
+// No derive makes a `From`: the first number is a code, and the others become indices.
 impl From<[u32; 5]> for Query {
     fn from(words: [u32; 5]) -> Query {
         let [code, a, b, c, d] = words;

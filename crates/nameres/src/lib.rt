@@ -1,92 +1,83 @@
 //! Names in a module and around its blocks: the uses of `with_ancestor_maps`.
 #![tactic(auto)]
 
-ghost use Rattle.std.specs.Prelude.{◌≡◌, List, ℕ, ◌<◌, ◌^◌};
+ghost use Rattle.std.specs.Prelude.{◌≡◌, List, ℕ, ◌<◌};
 ghost use Rattle.snapshot.specs.Records.{scope_at};
-ghost use Rattle.snapshot.specs.Layouts.{word_count, snap_of};
-ghost use Rattle.accept.specs.Post.{Reads};
+ghost use Rattle.snapshot.specs.Laid.{snap_by};
+ghost use Rattle.accept.specs.Opened.{snap_in};
 ghost use Rattle.hir_def.specs.Nameres.{scope_entry, entry_named, is_other, occupied as occupied_by};
 ghost use Rattle.hir_def.specs.Entries.{entry_of};
 
+use accept::opened::Snapshot;
 use hir_def::Item;
 use hir_def::finds::nearest;
 use hir_def::items::{item_of, same_item};
 use hir_def::modules::block;
 use item_scope::{entry_in, get};
 use snapshot::ids::{ModuleId, Name, Namespace};
-use snapshot::layout::Layout;
 use snapshot::record::{scope_definition, scope_ns};
+use snapshot::records::Records;
 
 /// The item's entry in a module, or around its blocks: the first; only entries declared there where these alone count; by options bit 32
 /// the first in its scope that isn't deprecated, if there is one.
 // `declared_only` and `fresh` are what the context says of the question, and two variables of type Bool in the definition.
 pub fn scope_entry(
-    words: &[u32],
-    area: &[u32],
-    l: Layout,
+    db: &Snapshot,
     from: ModuleId,
     item: Item,
     declared_only: bool,
     fresh: bool,
 ) -> Option<usize>
-    requires { Reads words.now area.now l × (from.0 < l.modules) }
-    ensures { entry_of scope_at words.now result ≡ scope_entry (snap_of words.now area.now l)
+    requires { from.0 < db.now.records.layout.modules }
+    ensures { entry_of scope_at db.now.records.words.now result ≡ scope_entry (snap_in db.now)
         from.0 item declared_only fresh }
 {
-    let find = |m| entry_in(words, l, m, item, declared_only, fresh).entry;
-    let outward = |m| block(words, area, l, m);
+    let find = |m| entry_in(&db.records, m, item, declared_only, fresh).entry;
+    let outward = |m| block(db, m);
     nearest(from, find, outward)
 }
 
 /// The first entry with a namespace and a name in a module, or around its blocks.
-pub fn entry_named(
-    words: &[u32],
-    area: &[u32],
-    l: Layout,
-    from: ModuleId,
-    ns: usize,
-    name: Name,
-) -> Option<usize>
-    requires { Reads words.now area.now l × (from.0 < l.modules) }
-    ensures { entry_of scope_at words.now result ≡ entry_named (snap_of words.now area.now l)
+// `nearest` with this lookup and this step; `scope_entry`, `read_back::entry_from` and those of seen entries give it others, and no more is left of them.
+pub fn entry_named(db: &Snapshot, from: ModuleId, ns: usize, name: Name) -> Option<usize>
+    requires { from.0 < db.now.records.layout.modules }
+    ensures { entry_of scope_at db.now.records.words.now result ≡ entry_named (snap_in db.now)
         from.0 ns name.0 }
 {
-    let find = |m| get(words, l, m, ns, name);
-    let outward = |m| block(words, area, l, m);
+    let find = |m| get(&db.records, m, ns, name);
+    let outward = |m| block(db, m);
     nearest(from, find, outward)
 }
 
 // Whether an entry stands for something else than a module.
-fn is_other(words: &[u32], l: Layout, e: Option<usize>, m: ModuleId) -> bool
-    requires { word_count l < 2 ^ 32 }
-    ensures { (A : List ℕ) → result ≡ is_other (snap_of words.now A l) m.0 (entry_of scope_at words.now e) }
+// The negation of `rule_lookups::same_here` for a module; each is stated over a definition of its own, and that one over a question's context.
+fn is_other(records: &Records, e: Option<usize>, m: ModuleId) -> bool
+    ensures { (A : List ℕ) → result ≡ is_other (snap_by records.now A) m.0 (entry_of scope_at records.now.words.now e) }
 {
     let Some(h) = e else {
         return false;
     };
-    let item = item_of(words, l, scope_ns(words, h), scope_definition(words, h));
+    let item = item_of(
+        records,
+        scope_ns(records.words, h),
+        scope_definition(records.words, h),
+    );
     !same_item(item, Item::Mod(m))
 }
 
 /// Whether a name is another thing's than a module's in types, in the module `from` or around its blocks.
-pub fn occupied(
-    words: &[u32],
-    area: &[u32],
-    l: Layout,
-    from: ModuleId,
-    m: ModuleId,
-    name: Name,
-) -> bool
-    requires { Reads words.now area.now l × (from.0 < l.modules) }
-    ensures { result ≡ occupied_by (snap_of words.now area.now l) from.0 m.0 name.0 }
+// `loop`: it climbs out of blocks. `nearest` answers an entry, and here the entry that is found decides.
+pub fn occupied(db: &Snapshot, from: ModuleId, m: ModuleId, name: Name) -> bool
+    requires { from.0 < db.now.records.layout.modules }
+    ensures { result ≡ occupied_by (snap_in db.now) from.0 m.0 name.0 }
 {
     let mut a = from;
     loop {
-        let e = get(words, l, a, Namespace::TYPES, name);
-        if is_other(words, l, e, m) {
+        let e = get(&db.records, a, Namespace::TYPES, name);
+        if is_other(&db.records, e, m) {
             return true;
         }
-        let Some(b) = block(words, area, l, a) else {
+        let Some(b) = block(db, a) else {
             return false;
         };
         a = b;

@@ -1,4 +1,4 @@
-//! The tables of the new numbers, for any two inputs.
+//! The tables of the new numbers, for any two inputs: before they are checked, both are words alone.
 ghost use Rattle.std.specs.Prelude.{◌≡◌, length};
 ghost use Rattle.snapshot.specs.Limits.{area_limit};
 ghost use Rattle.snapshot.specs.Refusals.{fault_number};
@@ -8,39 +8,54 @@ ghost use Rattle.new_numbers.specs.New.{NumbersBy, NewNumbers};
 
 use accept::check::check;
 use answer::area::clear;
+use join_numbers::inputs::Parts;
 use join_numbers::tables::number;
-use snapshot::ids::WordCount;
-use snapshot::layout::Layout;
+use snapshot::ids::Area;
+use snapshot::records::Records;
 use snapshot::refusal::Refusal;
 
 // Checks the second, and numbers its names and definitions.
-fn number_second(first: &[u32], second: &[u32], area: &mut [u32], l: Layout) -> Result<(), Refusal>
-    requires { (length area.old ≡ area_limit) × Part first.now l }
-    ensures { NumbersBy (accept (part_of first.now)) (verdict second.now) area.new (fault_number result) }
+fn number_second(first: &Records, second: &[u32], area: &mut Area) -> Result<(), Refusal>
+    requires { Part first.now.words.now first.now.layout }
+    ensures { NumbersBy (accept (part_of first.now.words.now)) (verdict second.now) area.new (fault_number result) }
 {
     match check(second, area) {
         Err(no) => {
             clear(area);
             Err(no.why)
         }
-        Ok(m) => {
-            number(first, second, area, l, m);
+        Ok(layout) => {
+            let second = Records {
+                words: second,
+                layout,
+            };
+            let parts = Parts {
+                first: *first,
+                second,
+            };
+            number(&parts, area);
             Ok(())
         }
     }
 }
 
 // Checks both, and numbers the second's.
-fn number_checked(first: &[u32], second: &[u32], area: &mut [u32]) -> Result<(), Refusal>
-    requires { length area.old ≡ area_limit }
-    ensures { NumbersBy (verdict first.now) (verdict second.now) area.new (fault_number result) }
+fn number_checked(first: &[u32], second: &[u32], area: &mut Area) -> Result<(), Refusal>
+    ensures long { length area.new ≡ area_limit }
+    ensures numbers { NumbersBy (verdict first.now) (verdict second.now) area.new (fault_number result) }
 {
     match check(first, area) {
         Err(no) => {
             clear(area);
             Err(no.why)
         }
-        Ok(l) => number_second(first, second, area, l),
+        Ok(layout) => {
+            let first = Records {
+                words: first,
+                layout,
+            };
+            number_second(&first, second, area)
+        }
     }
 }
 
@@ -50,8 +65,8 @@ fn number_checked(first: &[u32], second: &[u32], area: &mut [u32]) -> Result<(),
 pub fn new_numbers(first: &[u32], second: &[u32], area: &mut [u32]) -> Result<(), Refusal>
     ensures { NewNumbers first.now second.now area.old area.new (fault_number result) }
 {
-    if area.len() < WordCount::AREA {
+    let Some(front) = area.first_chunk_mut() else {
         return Err(Refusal::Area);
-    }
-    number_checked(first, second, &mut area[..WordCount::AREA])
+    };
+    number_checked(first, second, front)
 }

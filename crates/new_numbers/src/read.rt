@@ -6,6 +6,7 @@ use join_numbers::moved::{moved_definition, moved_name};
 use snapshot::ids::{DefinitionId, Name};
 
 /// The new number of a name of the second snapshot.
+// `name` is a number of the second snapshot and no length.
 pub fn new_name(area: &[u32], name: usize) -> usize
     ensures { NewName area.now name result }
 {

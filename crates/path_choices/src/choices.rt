@@ -1,37 +1,36 @@
 //! Paths to choose from: their lengths, one name more, and which of two is better.
-ghost use Rattle.std.specs.Prelude.{◌≡◌, ◌+◌, ◌-◌, ◌%◌, ◌≤◌, ◌<◌, ◌^◌};
+ghost use Rattle.std.specs.Prelude.{◌≡◌, ◌+◌, ◌%◌, ◌≤◌, ◌<◌, ◌^◌};
 ghost use Rattle.snapshot.specs.Limits.{word_limit};
-ghost use Rattle.snapshot.specs.Layouts.{snap_of};
-ghost use Rattle.accept.specs.Post.{Reads};
+ghost use Rattle.accept.specs.Opened.{snap_in};
 ghost use Rattle.path_choices.specs.Choices.{name_len, is_prelude, path_kind_len, path_len, step_by, nothing as nothing_of, keyword as keyword_of};
 ghost use Rattle.path_choices.specs.Choices.{choice_new, extended as extended_of, push as push_of, unstably as unstably_of, better as better_of};
 ghost use Rattle.path_choices.specs.Choices.{try_select, length_left};
 ghost use Rattle.path_choices.specs.StepRules.{rule_number};
 
 use crate::Choice;
+use accept::opened::Snapshot;
 use snapshot::ids::Name;
-use snapshot::layout::Layout;
 use snapshot::table::name_head;
 use snapshot::words::{field, payload};
 
 /// The bytes of a name's text.
-pub fn name_len(words: &[u32], area: &[u32], l: Layout, n: Name) -> usize
-    requires { Reads words.now area.now l × (n.0 < l.names) }
-    ensures { (result ≡ name_len (snap_of words.now area.now l) n.0) × (result ≤ 255) }
+pub fn name_len(db: &Snapshot, n: Name) -> usize
+    requires { n.0 < db.now.records.layout.names }
+    ensures { (result ≡ name_len (snap_in db.now) n.0) × (result ≤ 255) }
 {
-    payload(words, name_head(area, n))
+    payload(db.records.words, name_head(db.area, n))
 }
 
 /// Whether a name is `prelude`.
-pub fn is_prelude(words: &[u32], area: &[u32], l: Layout, n: Name) -> bool
-    requires { Reads words.now area.now l × (n.0 < l.names) }
-    ensures { result ≡ is_prelude (snap_of words.now area.now l) n.0 }
+pub fn is_prelude(db: &Snapshot, n: Name) -> bool
+    requires { n.0 < db.now.records.layout.names }
+    ensures { result ≡ is_prelude (snap_in db.now) n.0 }
 {
-    let h = name_head(area, n);
-    let first = field(words, h, 1) == 0x657270;
-    let second = field(words, h, 2) == 0x64756C;
-    let third = field(words, h, 3) == 0x65;
-    (payload(words, h) == 7) & (first & (second & third))
+    let h = name_head(db.area, n);
+    let first = field(db.records.words, h, 1) == 0x657270;
+    let second = field(db.records.words, h, 2) == 0x64756C;
+    let third = field(db.records.words, h, 3) == 0x65;
+    (payload(db.records.words, h) == 7) & (first & (second & third))
 }
 
 // The text lengths of the path kinds, and the names that they count for.
@@ -63,6 +62,7 @@ pub fn path_len(c: Choice) -> usize
 }
 
 /// The rules of a route.
+// The eight rules of the format, where an `Option` has two cases.
 #[derive(Clone, Copy)]
 pub enum StepRule {
     Builtin,
@@ -75,6 +75,7 @@ pub enum StepRule {
     Import,
 }
 
+// A `match` on the numbers of the format, as in `DefinitionKind::of` of `snapshot`.
 impl StepRule {
     /// The rule of a step.
     pub fn of_step(step: usize) -> StepRule
@@ -152,22 +153,13 @@ pub fn unstably(c: Choice) -> Choice
 
 // Whether the newcomer, with the name to come, takes the place of the current choice.
 // `prefer` is `prefer_prelude` of the Rust, a setting of the question.
-fn better(
-    words: &[u32],
-    area: &[u32],
-    l: Layout,
-    prefer: bool,
-    current: Choice,
-    other: Choice,
-    n: Name,
-) -> bool
-    requires { Reads words.now area.now l × (n.0 < l.names) × (current.count < 2 ^ 32) × (other.count < 2 ^ 32)
-        × (other.path_text_len < 2 ^ 32) }
-    ensures { result ≡ better_of (snap_of words.now area.now l) prefer current other n.0 }
+fn better(db: &Snapshot, prefer: bool, current: Choice, other: Choice, n: Name) -> bool
+    requires { (n.0 < db.now.records.layout.names) × (current.count < 2 ^ 32) × (other.count < 2 ^ 32) × (other.path_text_len < 2 ^ 32) }
+    ensures { result ≡ better_of (snap_in db.now) prefer current other n.0 }
 {
     let a = path_len(current);
     let b = path_len(other) + 1;
-    let shorter = other.path_text_len + name_len(words, area, l, n) < current.path_text_len;
+    let shorter = other.path_text_len + name_len(db, n) < current.path_text_len;
     let by_length = !(a <= b) | ((a == b) & shorter);
     let x = (prefer & other.has_prelude_segment) | (!prefer & current.has_prelude_segment);
     let y = (prefer & current.has_prelude_segment) | (!prefer & other.has_prelude_segment);
@@ -179,16 +171,16 @@ fn better(
 
 impl Choice {
     /// One name, stable, by a step.
-    pub fn new(words: &[u32], area: &[u32], l: Layout, kind: usize, n: Name, via: usize) -> Choice
-        requires { Reads words.now area.now l × (n.0 < l.names) }
-        ensures { result ≡ choice_new (snap_of words.now area.now l) kind n.0 via }
+    pub fn new(db: &Snapshot, kind: usize, n: Name, via: usize) -> Choice
+        requires { n.0 < db.now.records.layout.names }
+        ensures { result ≡ choice_new (snap_in db.now) kind n.0 via }
     {
         let mut names = [0usize; 16];
         names[0] = n.0;
         let mut route = [0usize; 17];
         route[0] = via;
-        let text = path_kind_len(kind) + name_len(words, area, l, n);
-        let prelude = is_prelude(words, area, l, n);
+        let text = path_kind_len(kind) + name_len(db, n);
+        let prelude = is_prelude(db, n);
         Choice {
             found: true,
             kind: kind,
@@ -204,18 +196,9 @@ impl Choice {
 
     // One name more, by a step, with a flag given for `prelude`.
     // `flag` is the value of a field, not a switch.
-    fn extended(
-        self,
-        words: &[u32],
-        area: &[u32],
-        l: Layout,
-        n: Name,
-        via: usize,
-        flag: bool,
-    ) -> Choice
-        requires { Reads words.now area.now l × (n.0 < l.names) × (self.count < 16) × (self.path_text_len < 2 ^ 32)
-            × (self.steps < 17) }
-        ensures { result ≡ extended_of (snap_of words.now area.now l) self n.0 via flag }
+    fn extended(self, db: &Snapshot, n: Name, via: usize, flag: bool) -> Choice
+        requires { (n.0 < db.now.records.layout.names) × (self.count < 16) × (self.path_text_len < 2 ^ 32) × (self.steps < 17) }
+        ensures { result ≡ extended_of (snap_in db.now) self n.0 via flag }
     {
         let count = self.count;
         let mut names = self.names;
@@ -223,7 +206,7 @@ impl Choice {
         let steps = self.steps;
         let mut route = self.route;
         route[steps] = via;
-        let text = self.path_text_len + name_len(words, area, l, n);
+        let text = self.path_text_len + name_len(db, n);
         Choice {
             found: true,
             kind: self.kind,
@@ -238,35 +221,32 @@ impl Choice {
     }
 
     /// One name more, by a step.
-    pub fn push(self, words: &[u32], area: &[u32], l: Layout, n: Name, via: usize) -> Choice
-        requires { Reads words.now area.now l × (n.0 < l.names) × (self.count < 16) × (self.path_text_len < 2 ^ 32)
-            × (self.steps < 17) }
-        ensures { result ≡ push_of (snap_of words.now area.now l) self n.0 via }
+    pub fn push(self, db: &Snapshot, n: Name, via: usize) -> Choice
+        requires { (n.0 < db.now.records.layout.names) × (self.count < 16) × (self.path_text_len < 2 ^ 32) × (self.steps < 17) }
+        ensures { result ≡ push_of (snap_in db.now) self n.0 via }
     {
-        let flag = is_prelude(words, area, l, n);
-        self.extended(words, area, l, n, via, self.has_prelude_segment | flag)
+        let flag = is_prelude(db, n);
+        self.extended(db, n, via, self.has_prelude_segment | flag)
     }
 
     /// The better of this choice and a newcomer with one name more; the first choice counts that name for `prelude`.
+    // `prefer` as in `better`.
     pub fn try_select(
         self,
-        words: &[u32],
-        area: &[u32],
-        l: Layout,
+        db: &Snapshot,
         prefer: bool,
         other: Choice,
         n: Name,
         via: usize,
     ) -> Choice
-        requires { Reads words.now area.now l × (n.0 < l.names) × (self.count < 2 ^ 32) × (other.count < 16)
-            × (other.path_text_len < 2 ^ 32) × (other.steps < 17) }
-        ensures { result ≡ try_select (snap_of words.now area.now l) prefer self other n.0 via }
+        requires { (n.0 < db.now.records.layout.names) × (self.count < 2 ^ 32) × (other.count < 16) × (other.path_text_len < 2 ^ 32) × (other.steps < 17) }
+        ensures { result ≡ try_select (snap_in db.now) prefer self other n.0 via }
     {
         if !self.found {
-            return other.push(words, area, l, n, via);
+            return other.push(db, n, via);
         }
-        if better(words, area, l, prefer, self, other, n) {
-            return other.extended(words, area, l, n, via, other.has_prelude_segment);
+        if better(db, prefer, self, other, n) {
+            return other.extended(db, n, via, other.has_prelude_segment);
         }
         self
     }

@@ -1,21 +1,20 @@
 //! What is set for a question, what its viewer sees, and the charges on its tank.
 ghost use Rattle.std.specs.Prelude.{◌≡◌, ◌+◌, ◌≤◌, ◌<◌, ◌^◌};
 ghost use Rattle.snapshot.specs.Records.{scope_at};
-ghost use Rattle.snapshot.specs.Layouts.{snap_of};
-ghost use Rattle.accept.specs.Post.{Reads};
+ghost use Rattle.accept.specs.Opened.{snap_in};
 ghost use Rattle.tree_rules.specs.Visibility.{sees as sees_of};
 ghost use Rattle.hir_def.specs.Items.{item_of};
 ghost use Rattle.find_path.specs.Rules.{bit as bit_of, plain_if, module_in, context_of, sought_of};
 ghost use Rattle.find_path.specs.Meters.{drained as drained_to, from_tank};
 ghost use Rattle.find_path.specs.Conditions.{charged_by};
 
+use accept::opened::Snapshot;
 use find_path::{FindPathCtx, Query, Tank};
 use hir_def::Item;
 use hir_def::items::{is_lang, supports_no_std};
 use hir_def::modules::{crate_root, in_block, krate, no_std};
 use hir_def::visibility::is_visible_from;
 use snapshot::ids::{ModuleId, Prefix};
-use snapshot::layout::Layout;
 use snapshot::record::scope_seen;
 
 // The bit of that value.
@@ -37,6 +36,7 @@ fn plain_if(block: bool, prefix: usize) -> usize
 }
 
 /// The module that an item is, +1, or 0 where it is none.
+// A number, as `own` and `sought` are: words of a report for C.
 pub fn module_in(item: Item) -> usize
     requires { module_in item < 2 ^ 32 }
     ensures { result ≡ module_in item }
@@ -48,32 +48,25 @@ pub fn module_in(item: Item) -> usize
 }
 
 /// What is set for a question about an item of that home; `own` is the module that the item is, +1, or 0.
-pub fn context(
-    words: &[u32],
-    area: &[u32],
-    l: Layout,
-    q: Query,
-    home: ModuleId,
-    own: usize,
-) -> FindPathCtx
-    requires { Reads words.now area.now l × (q.from.0 < l.modules) × (home.0 < l.modules)
-        × (own ≡ module_in (item_of (snap_of words.now area.now l) q.ns q.definition.0)) }
-    ensures { result ≡ context_of (snap_of words.now area.now l) q home.0 }
+// `own` as `module_in` gives it.
+pub fn context(db: &Snapshot, q: Query, home: ModuleId, own: usize) -> FindPathCtx
+    requires { (q.from.0 < db.now.records.layout.modules) × (home.0 < db.now.records.layout.modules) × (own ≡ module_in (item_of (snap_in db.now) q.ns q.definition.0)) }
+    ensures { result ≡ context_of (snap_in db.now) q home.0 }
 {
     let options = q.options;
     let from = q.from;
-    let prefix = plain_if(in_block(words, area, l, home), q.prefix);
-    let here = krate(words, area, l, from);
-    let map = no_std(words, area, l, from);
-    let its = supports_no_std(words, l, here);
+    let prefix = plain_if(in_block(db, home), q.prefix);
+    let here = krate(db, from);
+    let map = no_std(db, from);
+    let its = supports_no_std(&db.records, here);
     let nostd = bit(options, 1) | (map | its);
     let prelude = bit(options, 2);
     let absolute = bit(options, 4);
     let unstable = bit(options, 8);
     let declared = bit(options, 16);
     let fresh = bit(options, 32);
-    let std = is_lang(words, l, krate(words, area, l, home));
-    let root = crate_root(words, area, l, from);
+    let std = is_lang(&db.records, krate(db, home));
+    let root = crate_root(db, from);
     FindPathCtx {
         prefix: prefix,
         prefer_no_std: nostd,
@@ -92,15 +85,16 @@ pub fn context(
 }
 
 /// Whether the viewer sees the entry with its head at a place.
-pub fn sees(words: &[u32], area: &[u32], l: Layout, x: FindPathCtx, h: usize) -> bool
-    requires { Reads words.now area.now l × (x.from.0 < l.modules) × (2 ≤ (scope_at words.now h).visibility
-        → (scope_at words.now h).number < l.modules) }
-    ensures { result ≡ sees_of (snap_of words.now area.now l) x.from.0 (scope_at words.now h) }
+pub fn sees(db: &Snapshot, x: FindPathCtx, h: usize) -> bool
+    requires { (x.from.0 < db.now.records.layout.modules) × (2 ≤ (scope_at db.now.records.words.now h).visibility
+        → (scope_at db.now.records.words.now h).number < db.now.records.layout.modules) }
+    ensures { result ≡ sees_of (snap_in db.now) x.from.0 (scope_at db.now.records.words.now h) }
 {
-    is_visible_from(words, area, l, scope_seen(words, h), x.from)
+    is_visible_from(db, scope_seen(db.records.words, h), x.from)
 }
 
 // What a charge looks for: a module, +1, or 0 for the question's own item or its enum.
+// A number, as in `module_in`.
 fn sought_of(x: FindPathCtx, item: Item) -> usize
     requires { module_in item < 2 ^ 32 }
     ensures { result ≡ sought_of x item }

@@ -1,10 +1,9 @@
 //! What a step of a search offers: a name for a module's path, and the choice of the two.
 ghost use Rattle.std.specs.Prelude.{◌≡◌, ◌<◌, ◌^◌};
 ghost use Rattle.snapshot.specs.Records.{scope_at, import_at};
-ghost use Rattle.snapshot.specs.Layouts.{snap_of};
 ghost use Rattle.record_rules.specs.Stands.{counts_in};
-ghost use Rattle.accept.specs.Post.{Reads};
 ghost use Rattle.accept.specs.Valid.{ScopeFits, ImportFits};
+ghost use Rattle.accept.specs.Opened.{snap_in};
 ghost use Rattle.hir_def.specs.Entries.{entry_of};
 ghost use Rattle.hir_def.specs.ItemScope.{name_of, preferred};
 ghost use Rattle.find_path.specs.Conditions.{EntryFits};
@@ -12,6 +11,7 @@ ghost use Rattle.find_path.specs.Local.{offer as offer_of, offer_entry, is_impor
 ghost use Rattle.find_path.specs.Charged.{offer_import};
 ghost use Rattle.scope_index.specs.Index.{Indexed};
 
+use accept::opened::Snapshot;
 use find_path::{Choice, FindPathCtx};
 use hir_def::Item;
 use import_map::is_unstable;
@@ -19,112 +19,69 @@ use path_choices::choices::{StepRule, step_by, unstably};
 use rule_lookups::{Rule, entry_by, is_importable};
 use scope_index::name_in;
 use snapshot::ids::{ModuleId, Name};
-use snapshot::layout::Layout;
 use snapshot::record::{import_name, scope_name};
 
 // The first of the module's entries for the item; by options bit 32 the first that isn't deprecated and that the viewer can import, if there
 // is one.
-fn entry_for(
-    words: &[u32],
-    area: &[u32],
-    l: Layout,
-    x: FindPathCtx,
-    item: Item,
-    m: ModuleId,
-) -> Option<usize>
-    requires { Reads words.now area.now l × (x.from.0 < l.modules) × (m.0 < l.modules) × Indexed words.now l 0 area.now }
-    ensures { entry_of scope_at words.now result ≡ preferred x.fresh (snap_of words.now area.now l)
-        m.0 item (is_importable (snap_of words.now area.now l) x)
-        (name_of (snap_of words.now area.now l) m.0 item) }
+fn entry_for(db: &Snapshot, x: FindPathCtx, item: Item, m: ModuleId) -> Option<usize>
+    requires { (x.from.0 < db.now.records.layout.modules) × (m.0 < db.now.records.layout.modules) × Indexed db.now.records.words.now db.now.records.layout 0 db.now.area.now }
+    ensures { entry_of scope_at db.now.records.words.now result ≡ preferred x.fresh (snap_in db.now)
+        m.0 item (is_importable (snap_in db.now) x)
+        (name_of (snap_in db.now) m.0 item) }
 {
     if x.fresh {
-        return entry_by(words, area, l, x, m, item, Rule::Local).entry;
+        return entry_by(db, x, m, item, Rule::Local).entry;
     }
-    name_in(words, area, l, m, item)
+    name_in(&db.records, db.area, m, item)
 }
 
 /// The entry by which the viewer can import the item from the module, its first; by options bit 32 the first such one that isn't
 /// deprecated, if there is one.
-pub fn importable_name(
-    words: &[u32],
-    area: &[u32],
-    l: Layout,
-    x: FindPathCtx,
-    item: Item,
-    m: ModuleId,
-) -> Option<usize>
-    requires { Reads words.now area.now l × (x.from.0 < l.modules) × (m.0 < l.modules) × Indexed words.now l 0 area.now }
-    ensures { (entry_of scope_at words.now result ≡ importable_name (snap_of words.now area.now l) x item m.0)
-        × EntryFits words.now l result }
+pub fn importable_name(db: &Snapshot, x: FindPathCtx, item: Item, m: ModuleId) -> Option<usize>
+    requires { (x.from.0 < db.now.records.layout.modules) × (m.0 < db.now.records.layout.modules) × Indexed db.now.records.words.now db.now.records.layout 0 db.now.area.now }
+    ensures { (entry_of scope_at db.now.records.words.now result ≡ importable_name (snap_in db.now) x item m.0)
+        × EntryFits db.now.records.words.now db.now.records.layout result }
 {
-    let h = entry_for(words, area, l, x, item, m)?;
-    if is_importable(words, area, l, x, h) {
+    let h = entry_for(db, x, item, m)?;
+    if is_importable(db, x, h) {
         return Some(h);
     }
     None
 }
 
 // The better of the choice so far and the module's choice with the name, by a step, if it has one.
-fn offer(
-    words: &[u32],
-    area: &[u32],
-    l: Layout,
-    x: FindPathCtx,
-    best: Choice,
-    c: Choice,
-    n: Name,
-    via: usize,
-) -> Choice
-    requires { Reads words.now area.now l × (n.0 < l.names) × (best.count < 2 ^ 32) × (c.count < 16)
-        × (c.path_text_len < 2 ^ 32) × (c.steps < 17) }
-    ensures { result ≡ offer_of (snap_of words.now area.now l) x best c n.0 via }
+fn offer(db: &Snapshot, x: FindPathCtx, best: Choice, c: Choice, n: Name, via: usize) -> Choice
+    requires { (n.0 < db.now.records.layout.names) × (best.count < 2 ^ 32) × (c.count < 16) × (c.path_text_len < 2 ^ 32) × (c.steps < 17) }
+    ensures { result ≡ offer_of (snap_in db.now) x best c n.0 via }
 {
     if !c.found {
         return best;
     }
-    best.try_select(words, area, l, x.prefer_prelude, c, n, via)
+    best.try_select(db, x.prefer_prelude, c, n, via)
 }
 
 /// The better of the choice so far and the module's choice with the name of the scope entry with its head at a place.
-pub fn offer_entry(
-    words: &[u32],
-    area: &[u32],
-    l: Layout,
-    x: FindPathCtx,
-    best: Choice,
-    c: Choice,
-    h: usize,
-) -> Choice
-    requires { Reads words.now area.now l × ScopeFits (counts_in l) (scope_at words.now h) × (best.count < 2 ^ 32)
-        × (c.count < 16) × (c.path_text_len < 2 ^ 32) × (c.steps < 17) }
-    ensures { result ≡ offer_entry (snap_of words.now area.now l) x best c (scope_at words.now h) }
+pub fn offer_entry(db: &Snapshot, x: FindPathCtx, best: Choice, c: Choice, h: usize) -> Choice
+    requires { ScopeFits (counts_in db.now.records.layout) (scope_at db.now.records.words.now h) × (best.count < 2 ^ 32) × (c.count < 16) × (c.path_text_len < 2 ^ 32) × (c.steps < 17) }
+    ensures { result ≡ offer_entry (snap_in db.now) x best c (scope_at db.now.records.words.now h) }
 {
-    let n = scope_name(words, h);
+    let n = scope_name(db.records.words, h);
     let via = step_by(StepRule::Local, h);
-    offer(words, area, l, x, best, c, n, via)
+    offer(db, x, best, c, n, via)
 }
 
 /// The same for the import with its head at a place: an unstable one only where it is allowed, and as an unstable choice.
-pub fn offer_import(
-    words: &[u32],
-    area: &[u32],
-    l: Layout,
-    x: FindPathCtx,
-    best: Choice,
-    c: Choice,
-    h: usize,
-) -> Choice
-    requires { Reads words.now area.now l × ImportFits (counts_in l) (import_at words.now h) × (best.count < 2 ^ 32)
-        × (c.count < 16) × (c.path_text_len < 2 ^ 32) × (c.steps < 17) }
-    ensures { result ≡ offer_import (snap_of words.now area.now l) x best c (import_at words.now h) }
+pub fn offer_import(db: &Snapshot, x: FindPathCtx, best: Choice, c: Choice, h: usize) -> Choice
+    requires { ImportFits (counts_in db.now.records.layout) (import_at db.now.records.words.now h) × (best.count < 2 ^ 32) × (c.count < 16) × (c.path_text_len < 2 ^ 32) × (c.steps < 17) }
+    ensures { result ≡ offer_import (snap_in db.now) x best c (import_at db.now.records.words.now h) }
 {
     let via = step_by(StepRule::Import, h);
-    let n = import_name(words, h);
-    if !is_unstable(words, h) {
-        return offer(words, area, l, x, best, c, n, via);
+    let n = import_name(db.records.words, h);
+    if !is_unstable(db.records.words, h) {
+        return offer(db, x, best, c, n, via);
     }
     if !x.allow_unstable {
         return best;
     }
-    offer(words, area, l, x, best, unstably(c), n, via)
+    offer(db, x, best, unstably(c), n, via)
 }

@@ -13,7 +13,7 @@ fn main(rt: HostRuntime) -> io::Result<()> {
     // One byte more than an input may have.
     let mut bytes = vec![in alloc; 0; ByteCount::INPUT + 1]?;
     let mut words = vec![in alloc; 0; WordCount::SNAPSHOT]?;
-    let mut area = vec![in alloc; 0; WordCount::AREA]?;
+    let mut area = Box::new(alloc, [0; WordCount::AREA])?;
     let mut out = vec![in alloc; 0; RoutedBytes::LIMIT]?;
     let Ok(n) = read_input(&rt, &mut bytes) else {
         say_unread(&rt);

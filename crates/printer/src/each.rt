@@ -2,7 +2,7 @@
 ghost use Rattle.std.specs.Prelude.{◌≡◌, ◌≤◌, ℕ, List, length, take, map, OnOk};
 ghost use Rattle.std.specs.Fn.{CalledAt};
 ghost use Rattle.std.specs.List.{FoldsTo};
-ghost use Rattle.snapshot.specs.Limits.{word_limit, area_limit, routed_limit};
+ghost use Rattle.snapshot.specs.Limits.{word_limit, routed_limit};
 ghost use Rattle.printer.specs.Printed.{Turns, printed, ended};
 
 use crate::input::input_fault;
@@ -11,16 +11,18 @@ use crate::questions::first_question;
 use accept::check::check;
 use line::line::put_refusal;
 use printing::input::words_in;
+use snapshot::ids::Area;
 
 // The lines of the questions, which begin at place k; the snapshot before them is checked once.
+// `while`: questions differ in size, so `next_line` tells the place of the next one.
 fn each_answer<E: Drop, F: FnMut(&[u8]) -> Result<(), E>>(
     words: &[u32],
     k: usize,
-    area: &mut [u32],
+    area: &mut Area,
     out: &mut [u8],
     mut each: F,
 ) -> Result<(), E>
-    requires room { (k ≤ length words.now) × (length words.now ≤ word_limit) × (area_limit ≡ length area.old) × (routed_limit ≤ length out.old) }
+    requires room { (k ≤ length words.now) × (length words.now ≤ word_limit) × (routed_limit ≤ length out.old) }
     requires call { F.IsAlwaysCallable each }
     ensures { OnOk result ((c : _) × (texts : List (List ℕ)) × (last : F) × Turns words.now (take k words.now) c k texts
         × FoldsTo (λ p t q. CalledAt F.FnMut p t (Ok tt) q) each texts last) }
@@ -40,11 +42,11 @@ fn each_answer<E: Drop, F: FnMut(&[u8]) -> Result<(), E>>(
 pub fn each_line<E: Drop, F: FnMut(&[u8]) -> Result<(), E>>(
     bytes: &[u8],
     words: &mut [u32],
-    area: &mut [u32],
+    area: &mut Area,
     out: &mut [u8],
     mut each: F,
 ) -> Result<(), E>
-    requires room { (word_limit ≤ length words.old) × (area_limit ≡ length area.old) × (routed_limit ≤ length out.old) }
+    requires room { (word_limit ≤ length words.old) × (routed_limit ≤ length out.old) }
     requires call { F.IsAlwaysCallable each }
     ensures { OnOk result ((last : F) × FoldsTo (λ p t q. CalledAt F.FnMut p t (Ok tt) q) each (map ended (printed bytes.now)) last) }
 {

@@ -10,6 +10,7 @@ use checked::lines::line_on;
 use line::line::put_refusal;
 use reach::lines::reach_line_on;
 use route_line::lines::routed_line_on;
+use snapshot::ids::Area;
 use snapshot::kind::Size;
 use snapshot::layout::Layout;
 use snapshot::refusal::Refusal;
@@ -26,13 +27,12 @@ pub struct Turn {
 pub fn next_line(
     words: &[u32],
     snapshot: &[u32],
-    area: &mut [u32],
+    area: &mut Area,
     c: Result<Layout, Refused>,
     at: usize,
     out: &mut [u8],
 ) -> Turn
-    requires { Judged snapshot.now area.old c × (length area.old ≡ area_limit) × (routed_limit ≤ length out.old)
-        × (at < length words.now) × (length words.now ≤ word_limit) }
+    requires { Judged snapshot.now area.old c × (routed_limit ≤ length out.old) × (at < length words.now) × (length words.now ≤ word_limit) }
     ensures { Printed words.now snapshot.now c at area.new out.old out.new result }
 {
     if is_reach(words, at) {

@@ -10,13 +10,15 @@ use snapshot::kind::{Kind, Size};
 use snapshot::words::{field, kind, payload};
 
 /// The kinds of what is asked: a path, a path with its route, and the reach of a module.
+// Three kinds of the format; that a number is none of them is the `None` of `of`.
 #[derive(Clone, Copy, PartialEq, Eq)]
 pub enum QuestionKind {
-    Path,
-    Route,
-    Reach,
+    Path = 12,
+    Route = 14,
+    Reach = 15,
 }
 
+// A `match` on the numbers of the format, as in `DefinitionKind::of` of `snapshot`; a table would have a hole at 13.
 impl QuestionKind {
     /// The kind with a number.
     pub fn of(number: usize) -> Option<QuestionKind>
@@ -103,6 +105,7 @@ pub fn asks_route(words: &[u32], at: usize) -> bool
 }
 
 /// The question at a place.
+// The words of `questions::question_of` in another order, the first in a head with a kind: by one reader each field would take its place as a parameter.
 pub fn question_at(words: &[u32], at: usize) -> Question
     ensures { result ≡ question_at words.now at }
 {
@@ -121,6 +124,7 @@ pub fn question_at(words: &[u32], at: usize) -> Question
 }
 
 /// Who asks for a reach at a place.
+// As `exports::viewer_of`, whose first word is no head with a kind in it.
 pub fn viewer_at(words: &[u32], at: usize) -> Viewer
     ensures { result ≡ viewer_at words.now at }
 {

@@ -8,17 +8,18 @@ use crate::reach::reach_on;
 use accept::check::Refused;
 use reach_line::put_reach;
 use reach_parts::Viewer;
+use snapshot::ids::Area;
 use snapshot::layout::Layout;
 
 /// Puts the line of a reach on checked words and its end at the front, and answers its length. The words stay checked.
 pub fn reach_line_on(
     words: &[u32],
-    area: &mut [u32],
+    area: &mut Area,
     c: Result<Layout, Refused>,
     v: Viewer,
     out: &mut [u8],
 ) -> usize
-    requires { Judged words.now area.old c × (length area.old ≡ area_limit) × (line_limit ≤ length out.old) }
+    requires { Judged words.now area.old c × (line_limit ≤ length out.old) }
     ensures { ReachLineOn words.now v c area.new out.old out.new result }
 {
     let r = reach_on(words, area, c, v);

@@ -10,18 +10,19 @@ use checked::faults::call_fault;
 use find_path::Query;
 use reach_parts::tally::refused;
 use reach_parts::{Reach, Viewer};
-use snapshot::ids::DefinitionId;
+use snapshot::ids::{Area, DefinitionId};
 use snapshot::layout::Layout;
+use snapshot::records::Records;
 use snapshot::refusal::Refusal;
 
 // The counts of what the searches found, or why the module is refused.
 fn counted(
     words: &[u32],
-    area: &mut [u32],
+    area: &mut Area,
     c: Result<Layout, Refused>,
     v: Viewer,
 ) -> Result<Reach, Refusal>
-    requires { Judged words.now area.old c × (length area.old ≡ area_limit) }
+    requires { Judged words.now area.old c }
     ensures { Reached words.now v c area.new (told result) }
 {
     let from = v.from;
@@ -34,17 +35,17 @@ fn counted(
         limit: v.limit,
     };
     call_fault(area.len(), q, v.fuel)?;
-    let l = c?;
-    if l.modules <= v.from.0 {
+    let layout = c?;
+    if layout.modules <= v.from.0 {
         return Err(Refusal::Unknown);
     }
-    Ok(reach_in(words, area, l, v))
+    Ok(reach_in(&Records { words, layout }, area, v))
 }
 
 /// The reach of a module on checked words, which stay so.
 // The arms of `report_on` with this crate's `refused`: a reach and a report share no field but the number.
-pub fn reach_on(words: &[u32], area: &mut [u32], c: Result<Layout, Refused>, v: Viewer) -> Reach
-    requires { Judged words.now area.old c × (length area.old ≡ area_limit) }
+pub fn reach_on(words: &[u32], area: &mut Area, c: Result<Layout, Refused>, v: Viewer) -> Reach
+    requires { Judged words.now area.old c }
     ensures { Reached words.now v c area.new result }
 {
     match counted(words, area, c, v) {

@@ -12,13 +12,12 @@ use answer::area::clear;
 use reach::reach::reach_on;
 use reach_parts::tally::refused;
 use reach_parts::{Reach, Viewer};
-use snapshot::ids::WordCount;
+use snapshot::ids::Area;
 use snapshot::refusal::Refusal;
 
 // The reach, in a work area that serves and is cleared.
 // As in `answer`, but `reach_on` answers a `Reach`: a generic of report and closure would be no shorter.
-fn reach_within(words: &[u32], area: &mut [u32], v: Viewer) -> Reach
-    requires { length area.old ≡ area_limit }
+fn reach_within(words: &[u32], area: &mut Area, v: Viewer) -> Reach
     ensures value { result ≡ reach_of words.now area_limit v }
     ensures area_after { area.new ≡ zeros area_limit }
 {
@@ -32,8 +31,8 @@ fn reach_within(words: &[u32], area: &mut [u32], v: Viewer) -> Reach
 pub fn find_reach(words: &[u32], area: &mut [u32], v: Viewer) -> Reach
     ensures { Reaches words.now area.old v area.new result }
 {
-    if area.len() < WordCount::AREA {
+    let Some(front) = area.first_chunk_mut() else {
         return refused(Refusal::Area.number());
-    }
-    reach_within(words, &mut area[..WordCount::AREA], v)
+    };
+    reach_within(words, front, v)
 }

@@ -59,22 +59,22 @@ pub rest_one : (ns : List ℕ) → [] ≡ rest_to ns 1
 unfolding rest_to
 rest_one ns = refl
 
-rest_more : (ns : List ℕ) (i : ℕ) → 1 ≤ i → rest_to ns i ++ (bytes_of " " ++ decimal (get_or ns i 0)) ≡ rest_to ns (i + 1)
+pub rest_next : (ns : List ℕ) (i : ℕ) → 1 ≤ i → rest_to ns i ++ (bytes_of " " ++ decimal (get_or ns i 0)) ≡ rest_to ns (i + 1)
 unfolding rest_to
-rest_more ns zero h = absurd (omega arith)
-rest_more ns (suc i) h = ap (rest_to ns) (sym (add-one (suc i)))
+rest_next ns zero h = absurd (omega arith)
+rest_next ns (suc i) h = ap (rest_to ns) (sym (add-one (suc i)))
 
 -- the numbers past the first, as a slice
 pub rest_length : (ns : List ℕ) → length (take (length ns - 1) (drop 1 ns)) ≡ length ns - 1
 rest_length ns = simp (length-take, length-drop) (omega arith)
 
-pub rest_next : (ns : List ℕ) (i : ℕ) {n : ℕ} → i < length ns - 1 → n ≡ get_or (take (length ns - 1) (drop 1 ns)) i 0
+pub rest_slice : (ns : List ℕ) (i : ℕ) {n : ℕ} → i < length ns - 1 → n ≡ get_or (take (length ns - 1) (drop 1 ns)) i 0
     → rest_to ns (i + 1) ++ (bytes_of " " ++ decimal n) ≡ rest_to ns (i + 1 + 1)
-rest_next ns i h e =
+rest_slice ns i h e =
     let k : 1 + i ≡ i + 1 = omega arith in
     ap (λ x. rest_to ns (i + 1) ++ (bytes_of " " ++ decimal x))
     (e ∙ get_or-take (length ns - 1) (drop 1 ns) i 0 h ∙ get_or-drop 1 ns i 0 ∙ ap (λ j. get_or ns j 0) k)
-    ∙ rest_more ns (i + 1) (omega arith)
+    ∙ rest_next ns (i + 1) (omega arith)
 
 rest_all : (ns : List ℕ) (i : ℕ) → 1 ≤ i → i ≤ length ns → decimal (get_or ns 0 0) ++ rest_to ns i ≡ numbers_to ns i
 unfolding rest_to

@@ -2,38 +2,38 @@
 ghost use Rattle.std.specs.Prelude.{◌≡◌, ◌<◌};
 ghost use Rattle.snapshot.specs.Ids.{plus_one};
 ghost use Rattle.snapshot.specs.Records.{scope_at};
-ghost use Rattle.snapshot.specs.Layouts.{snap_of};
-ghost use Rattle.accept.specs.Post.{Reads};
+ghost use Rattle.accept.specs.Opened.{snap_in};
 ghost use Rattle.hir_def.specs.Entries.{entry_of};
 ghost use Rattle.readings.specs.Reads.{outward as outward_of, stands_for, entry_from};
 
+use accept::opened::Snapshot;
 use hir_def::finds::nearest;
 use hir_def::modules::{block, parent};
 use item_scope::get;
 use snapshot::ids::{ModuleId, Name};
-use snapshot::layout::Layout;
 
 // The block's parent of a block map's root, none of any other module.
 // How names are read is defined in `readings`, privacy in `tree_rules`: alike here, and kept apart so that neither follows the other.
-fn outward(words: &[u32], area: &[u32], l: Layout, m: ModuleId) -> Option<ModuleId>
-    requires { Reads words.now area.now l × (m.0 < l.modules) }
-    ensures { plus_one result ≡ outward_of (snap_of words.now area.now l) m.0 }
+fn outward(db: &Snapshot, m: ModuleId) -> Option<ModuleId>
+    requires { m.0 < db.now.records.layout.modules }
+    ensures { plus_one result ≡ outward_of (snap_in db.now) m.0 }
 {
-    match parent(words, area, l, m) {
+    match parent(db, m) {
         Some(_) => None,
-        None => block(words, area, l, m),
+        None => block(db, m),
     }
 }
 
 /// The module, or where it is a block map's root the one that this stands for.
 // Over `outward`; `module_around` is over privacy's step, and its clause is of that definition.
-pub(crate) fn stands_for(words: &[u32], area: &[u32], l: Layout, m: ModuleId) -> ModuleId
-    requires { Reads words.now area.now l × (m.0 < l.modules) }
-    ensures { (result.0 ≡ stands_for (snap_of words.now area.now l) m.0) × (result.0 < l.modules) }
+// `loop`: it climbs out of blocks; `nearest` looks for an entry on the way, and here the end is asked for.
+pub(crate) fn stands_for(db: &Snapshot, m: ModuleId) -> ModuleId
+    requires { m.0 < db.now.records.layout.modules }
+    ensures { (result.0 ≡ stands_for (snap_in db.now) m.0) × (result.0 < db.now.records.layout.modules) }
 {
     let mut t = m;
     loop {
-        let Some(b) = outward(words, area, l, t) else {
+        let Some(b) = outward(db, t) else {
             return t;
         };
         t = b;
@@ -41,18 +41,11 @@ pub(crate) fn stands_for(words: &[u32], area: &[u32], l: Layout, m: ModuleId) ->
 }
 
 /// The first entry with a namespace and a name in a module or, out of blocks, in the modules around it.
-pub(crate) fn entry_from(
-    words: &[u32],
-    area: &[u32],
-    l: Layout,
-    from: ModuleId,
-    ns: usize,
-    name: Name,
-) -> Option<usize>
-    requires { Reads words.now area.now l × (from.0 < l.modules) }
-    ensures { entry_of scope_at words.now result ≡ entry_from (snap_of words.now area.now l) from.0 ns name.0 }
+pub(crate) fn entry_from(db: &Snapshot, from: ModuleId, ns: usize, name: Name) -> Option<usize>
+    requires { from.0 < db.now.records.layout.modules }
+    ensures { entry_of scope_at db.now.records.words.now result ≡ entry_from (snap_in db.now) from.0 ns name.0 }
 {
-    let find = |m| get(words, l, m, ns, name);
-    let step = |m| outward(words, area, l, m);
+    let find = |m| get(&db.records, m, ns, name);
+    let step = |m| outward(db, m);
     nearest(from, find, step)
 }

@@ -1,17 +1,18 @@
 //! Externs by their name, and an enum's variants by theirs.
-ghost use Rattle.std.specs.Prelude.{◌≡◌, List, ℕ, ◌^◌, ◌<◌};
+ghost use Rattle.std.specs.Prelude.{◌≡◌, List, ℕ};
 ghost use Rattle.snapshot.specs.Records.{extern_at, member_at};
-ghost use Rattle.snapshot.specs.Layouts.{word_count, snap_of};
+ghost use Rattle.snapshot.specs.Laid.{snap_by};
 ghost use Rattle.hir_def.specs.Entries.{entry_of};
 ghost use Rattle.readings.specs.Reads.{is_extern_named, extern_named, is_variant_named, variant_named};
 
 use hir_def::finds::first_where;
 use snapshot::ids::{Crate, DefinitionId, MemberKind, Name};
 use snapshot::kind::Size;
-use snapshot::layout::Layout;
-use snapshot::record::{extern_name, extern_owner, member_kind, member_name, member_parent};
+use snapshot::record::{extern_name, extern_owner, known_member_kind, member_name, member_parent};
+use snapshot::records::Records;
 
 // Whether the extern with its head at a place is the crate's of that name.
+// By the name, where `crate_graph::is_extern` compares the target: one of both would take that reader, to save a line.
 fn is_extern_named(words: &[u32], h: usize, c: Crate, name: Name) -> bool
     ensures { result ≡ is_extern_named c.0 name.0 (extern_at words.now h) }
 {
@@ -21,28 +22,39 @@ fn is_extern_named(words: &[u32], h: usize, c: Crate, name: Name) -> bool
 }
 
 /// The crate's extern of that name.
-pub fn extern_named(words: &[u32], l: Layout, c: Crate, name: Name) -> Option<usize>
-    requires { word_count l < 2 ^ 32 }
-    ensures { (A : List ℕ) → entry_of extern_at words.now result ≡ extern_named (snap_of words.now A l) c.0 name.0 }
+// The call of `first_where` with a test, as in `item_scope::get`.
+pub fn extern_named(records: &Records, c: Crate, name: Name) -> Option<usize>
+    ensures { (A : List ℕ) → entry_of extern_at records.now.words.now result ≡ extern_named (snap_by records.now A) c.0 name.0 }
 {
-    let test = |h| is_extern_named(words, h, c, name);
-    first_where(l.extern_base(), Size::EXTERN, l.externs, test)
+    let test = |h| is_extern_named(records.words, h, c, name);
+    first_where(
+        records.layout.extern_base(),
+        Size::EXTERN,
+        records.layout.externs,
+        test,
+    )
 }
 
 // Whether the member with its head at a place is the definition's variant of that name.
+// The shape of `item_scope::is_named` over a member's fields: one of both would take three readers.
 fn is_variant_named(words: &[u32], h: usize, d: DefinitionId, name: Name) -> bool
     ensures { result ≡ is_variant_named d.0 name.0 (member_at words.now h) }
 {
     let parent = member_parent(words, h);
     let its = member_name(words, h);
-    (parent.0 == d.0) & ((member_kind(words, h) == Some(MemberKind::Variant)) & (its.0 == name.0))
+    (parent.0 == d.0)
+        & ((known_member_kind(words, h) == Some(MemberKind::Variant)) & (its.0 == name.0))
 }
 
 /// The definition's first variant of that name.
-pub fn variant_named(words: &[u32], l: Layout, d: DefinitionId, name: Name) -> Option<usize>
-    requires { word_count l < 2 ^ 32 }
-    ensures { (A : List ℕ) → entry_of member_at words.now result ≡ variant_named (snap_of words.now A l) d.0 name.0 }
+pub fn variant_named(records: &Records, d: DefinitionId, name: Name) -> Option<usize>
+    ensures { (A : List ℕ) → entry_of member_at records.now.words.now result ≡ variant_named (snap_by records.now A) d.0 name.0 }
 {
-    let test = |h| is_variant_named(words, h, d, name);
-    first_where(l.member_base(), Size::MEMBER, l.members, test)
+    let test = |h| is_variant_named(records.words, h, d, name);
+    first_where(
+        records.layout.member_base(),
+        Size::MEMBER,
+        records.layout.members,
+        test,
+    )
 }

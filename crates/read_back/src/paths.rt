@@ -1,18 +1,17 @@
 //! What a path means, and whether it means an item.
-ghost use Rattle.std.specs.Prelude.{◌≡◌, ℕ, ◌+◌, ◌-◌, ◌<◌, ◌≤◌, length, get_or, take};
+ghost use Rattle.std.specs.Prelude.{◌≡◌, ℕ, ◌+◌, ◌-◌, ◌<◌, length, get_or};
 ghost use Rattle.snapshot.specs.Lists.{rows};
-ghost use Rattle.snapshot.specs.Layouts.{snap_of};
-ghost use Rattle.accept.specs.Post.{Reads};
+ghost use Rattle.accept.specs.Opened.{snap_in};
 ghost use Rattle.hir_def.specs.Items.{parent_of};
 ghost use Rattle.readings.specs.Reads.{stands_for, parent_means, looked_in, follow as follow_of, reads_to, reads_back};
 
 use crate::blocks::stands_for;
 use crate::names::{first_name, in_externs, means_module, next_name};
+use accept::opened::Snapshot;
 use hir_def::Item;
 use hir_def::items::{ns_of, same_item};
 use hir_def::modules::{crate_root, parent};
 use snapshot::ids::{ModuleId, Name, Namespace, PathKind};
-use snapshot::layout::Layout;
 
 // Where the name k of so many is looked up.
 fn looked_in(ns: usize, k: usize, count: usize) -> usize
@@ -27,65 +26,54 @@ fn looked_in(ns: usize, k: usize, count: usize) -> usize
 
 // The names from a number on, after what was reached.
 fn follow(
-    words: &[u32],
-    area: &[u32],
-    l: Layout,
+    db: &Snapshot,
     from: ModuleId,
     ns: usize,
     start: Option<Item>,
     names: &[usize],
     first: usize,
-    count: usize,
 ) -> Option<Item>
-    requires { Reads words.now area.now l × (from.0 < l.modules) × (count ≤ length names.now) }
-    ensures { result ≡ follow_of (snap_of words.now area.now l) from.0 ns start
-        (rows (λ i. get_or names.now i 0) first (count - first)) }
+    requires { from.0 < db.now.records.layout.modules }
+    ensures { result ≡ follow_of (snap_in db.now) from.0 ns start
+        (rows (λ i. get_or names.now i 0) first (length names.now - first)) }
 {
+    let count = names.len();
     let mut here = start;
     for k in first..count {
         let its = looked_in(ns, k, count);
-        here = next_name(words, area, l, from, its, Name(names[k]), here);
+        here = next_name(db, from, its, Name(names[k]), here);
     }
     here
 }
 
 // What `super` means.
-fn super_of(words: &[u32], area: &[u32], l: Layout, from: ModuleId) -> Option<Item>
-    requires { Reads words.now area.now l × (from.0 < l.modules) }
-    ensures { result ≡ parent_means (snap_of words.now area.now l)
-        (parent_of (snap_of words.now area.now l) (stands_for (snap_of words.now area.now l) from.0)) }
+fn super_of(db: &Snapshot, from: ModuleId) -> Option<Item>
+    requires { from.0 < db.now.records.layout.modules }
+    ensures { result ≡ parent_means (snap_in db.now)
+        (parent_of (snap_in db.now) (stands_for (snap_in db.now) from.0)) }
 {
-    let m = stands_for(words, area, l, from);
-    let p = parent(words, area, l, m)?;
-    means_module(stands_for(words, area, l, p))
+    let m = stands_for(db, from);
+    let p = parent(db, m)?;
+    means_module(stands_for(db, p))
 }
 
 // The item that a path means in a module.
-// `count` of a path's sixteen names, passed on from a choice as it stands.
-fn reads_to(
-    words: &[u32],
-    area: &[u32],
-    l: Layout,
-    from: ModuleId,
-    ns: usize,
-    kind: usize,
-    names: &[usize],
-    count: usize,
-) -> Option<Item>
-    requires { Reads words.now area.now l × (from.0 < l.modules) × (count ≤ length names.now) }
-    ensures { result ≡ reads_to (snap_of words.now area.now l) from.0 ns kind (take count names.now) }
+fn reads_to(db: &Snapshot, from: ModuleId, ns: usize, kind: usize, names: &[usize]) -> Option<Item>
+    requires { from.0 < db.now.records.layout.modules }
+    ensures { result ≡ reads_to (snap_in db.now) from.0 ns kind names.now }
 {
+    let count = names.len();
     if kind == PathKind::SelfModule as usize {
-        let here = means_module(stands_for(words, area, l, from));
-        return follow(words, area, l, from, ns, here, names, 0, count);
+        let here = means_module(stands_for(db, from));
+        return follow(db, from, ns, here, names, 0);
     }
     if kind == PathKind::Super as usize {
-        let above = super_of(words, area, l, from);
-        return follow(words, area, l, from, ns, above, names, 0, count);
+        let above = super_of(db, from);
+        return follow(db, from, ns, above, names, 0);
     }
     if kind == PathKind::Crate as usize {
-        let root = means_module(crate_root(words, area, l, from));
-        return follow(words, area, l, from, ns, root, names, 0, count);
+        let root = means_module(crate_root(db, from));
+        return follow(db, from, ns, root, names, 0);
     }
     if count == 0 {
         return None;
@@ -93,29 +81,19 @@ fn reads_to(
     let its = looked_in(ns, 0, count);
     let name = Name(names[0]);
     if kind == PathKind::Absolute as usize {
-        let dependency = in_externs(words, area, l, from, its, name);
-        return follow(words, area, l, from, ns, dependency, names, 1, count);
+        let dependency = in_externs(db, from, its, name);
+        return follow(db, from, ns, dependency, names, 1);
     }
-    let first = first_name(words, area, l, from, its, name);
-    follow(words, area, l, from, ns, first, names, 1, count)
+    let first = first_name(db, from, its, name);
+    follow(db, from, ns, first, names, 1)
 }
 
 /// Whether a path, read from a module, means exactly the item.
-// The names are a choice's array: `take count` of it is the path in each statement about reading back.
-pub fn reads_back(
-    words: &[u32],
-    area: &[u32],
-    l: Layout,
-    from: ModuleId,
-    item: Item,
-    kind: usize,
-    names: &[usize],
-    count: usize,
-) -> bool
-    requires { Reads words.now area.now l × (from.0 < l.modules) × (count ≤ length names.now) }
-    ensures { result ≡ reads_back (snap_of words.now area.now l) from.0 item kind (take count names.now) }
+pub fn reads_back(db: &Snapshot, from: ModuleId, item: Item, kind: usize, names: &[usize]) -> bool
+    requires { from.0 < db.now.records.layout.modules }
+    ensures { result ≡ reads_back (snap_in db.now) from.0 item kind names.now }
 {
-    let Some(x) = reads_to(words, area, l, from, ns_of(item), kind, names, count) else {
+    let Some(x) = reads_to(db, from, ns_of(item), kind, names) else {
         return false;
     };
     same_item(x, item)

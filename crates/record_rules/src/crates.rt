@@ -6,6 +6,7 @@ ghost use Rattle.record_rules.specs.Stands.{crate_number_of};
 use snapshot::refusal::Refusal;
 
 /// Refused by the first test of a crate that fails.
+// Each flag is the result of a test of the record, as in `judge`.
 pub fn judge_crate(range: bool, edition: bool, room: bool) -> Result<(), Refusal>
     ensures { fault_number result ≡ crate_number_of range edition room }
 {

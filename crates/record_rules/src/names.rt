@@ -95,7 +95,8 @@ fn same_text(left: &[u32], a: usize, right: &[u32], b: usize, n: usize, last: us
 }
 
 /// Whether one of the n names with these heads has the text of the name at a place.
-// The heads are the front of an area or of a table: n of them are filled.
+// The heads are the front of an area or of a table, of which n count. Tried with the slice of these n alone: the proof of `keywords`, which has the
+// front of a constant table, did not close.
 pub fn known(words: &[u32], at: usize, names: &[u32], heads: &[u32], n: usize) -> bool
     requires { (n < 2 ^ 32) × (n ≤ length heads.now) }
     ensures { result ≡ any (same_name (name_at words.now at))
@@ -134,6 +135,7 @@ pub fn is_builtin(words: &[u32], at: usize) -> bool
 
 // Whether a name with the key has the text of the name at a place.
 // Both the heads of the n names and their chains stand in the area, so it is passed whole.
+// `while`: it follows links, so the next number is read.
 fn repeated(words: &[u32], at: usize, area: &[u32], n: usize, key: usize) -> bool
     requires chained { Chained area.now name_heads name_links (λ i. name_key (name_at words.now (name_head area.now i))) n }
     requires n_le_name_limit { (n ≤ name_limit) × (key ≡ name_key (name_at words.now at)) }

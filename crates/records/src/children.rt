@@ -16,6 +16,7 @@ use snapshot::refusal::Refusal;
 use snapshot::table::{module_map, module_parent};
 use snapshot::words::word;
 
+// The shape of a dependency's test, which holds other fields against the crates: one of both would take two readers and a count.
 fn defined(words: &[u32], l: Layout, at: usize) -> bool
     ensures { result ≡ child_defined (counts_in l) (child_at words.now at) }
 {

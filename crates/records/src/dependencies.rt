@@ -27,6 +27,7 @@ fn defined(words: &[u32], l: Layout, at: usize) -> bool
 }
 
 /// A dependency.
+// As the step of a member but for its tests and the count that it raises: shared, they would be closures, of as many lines.
 pub fn step(words: &[u32], area: &[u32], l: Layout, at: usize) -> Result<Layout, Refusal>
     requires { Ready words.now area.now l at (at + dependency_size) }
     ensures { (ms : List Map) → Stands words.now area.now 3 at l ms

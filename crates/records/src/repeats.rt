@@ -66,6 +66,7 @@ pub fn repeated(
 }
 
 /// The same among the records with a key, by their owner and first fields.
+// `while`: it follows links, so the next number is read.
 pub fn repeated_with(
     words: &[u32],
     area: &[u32],

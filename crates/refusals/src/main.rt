@@ -6,7 +6,6 @@ mod cases;
 mod outcome;
 
 use std::io;
-use std::io::ErrorKind;
 use streams::read_as_far;
 
 // Bytes of the list, at most.
@@ -20,7 +19,6 @@ fn main(rt: HostRuntime) -> io::Result<()> {
     let mut list = vec![in alloc; 0; LIST]?;
     let mut area = vec![in alloc; 0; SPACE]?;
     let n = read_as_far(&rt, &mut list);
-    let text = str::from_utf8(&list[..n]).map_err(|_| io::Error::from(ErrorKind::InvalidData))?;
-    cases::run(&rt, text, &mut area)?;
+    cases::run(&rt, &list[..n], &mut area)?;
     area::run(&rt, &mut area)
 }

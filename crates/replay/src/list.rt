@@ -27,6 +27,7 @@ fn next_part(rt: &(impl Input + AllocGlobal), most: usize) -> Result<Option<Vec<
 }
 
 // Whether the lines of the next input are as stored; none at the end.
+// Not an equality of two values: both parts are read here, and the list may end.
 fn compare_next(
     rt: &(impl Input + AllocGlobal),
     space: &mut Space,

@@ -1,20 +1,19 @@
 //! Whether the lines of an input are those that are stored.
-ghost use Rattle.std.specs.Prelude.{◌≡◌, ◌≤◌, vec_len};
-ghost use Rattle.snapshot.specs.Limits.{word_limit, area_limit, routed_limit};
+ghost use Rattle.std.specs.Prelude.{◌≤◌, vec_len};
+ghost use Rattle.snapshot.specs.Limits.{word_limit, routed_limit};
 
 use printer::each::each_line;
 use route_line::route::RoutedBytes;
-use snapshot::ids::WordCount;
+use snapshot::ids::{Area, WordCount};
 use std::alloc::{AllocError, Global};
 
 /// The memory of a printer: an input's words, the work area and a line.
 #[derive(Drop)]
 pub struct Space {
     words: Vec<u32>,
-    area: Vec<u32>,
+    area: Box<Area>,
     out: Vec<u8>,
     ghost words_in_bounds: { word_limit ≤ vec_len words },
-    ghost area_in_bounds: { area_limit ≡ vec_len area },
     ghost line_in_bounds: { routed_limit ≤ vec_len out },
 }
 
@@ -26,7 +25,7 @@ impl Space {
     pub fn new(alloc: Global) -> Result<Space, AllocError> {
         Ok(Space {
             words: vec![in alloc; 0; WordCount::SNAPSHOT]?,
-            area: vec![in alloc; 0; WordCount::AREA]?,
+            area: Box::new(alloc, [0; WordCount::AREA])?,
             out: vec![in alloc; 0; RoutedBytes::LIMIT]?,
         })
     }

@@ -1,20 +1,19 @@
 //! The route of a report, as text.
 //! As the line itself, it is put into bytes that C lends: the library has no heap for a String.
-ghost use Rattle.std.specs.Prelude.{[], ◌++◌, ◌+◌, ◌≤◌, ◌<◌, length, get_or, take};
+ghost use Rattle.std.specs.Prelude.{[], ◌++◌, ◌+◌, ◌≤◌, length, get_or, take};
 ghost use Rattle.snapshot.specs.Limits.{routed_limit};
-ghost use Rattle.snapshot.specs.Layouts.{snap_of};
-ghost use Rattle.accept.specs.Post.{Reads};
+ghost use Rattle.accept.specs.Opened.{snap_in};
 ghost use Rattle.printing.specs.Output.{Put};
 ghost use Rattle.path_choices.specs.StepRules.{rule_number};
 ghost use Rattle.find_path.specs.Line.{bytes_of, rule_names, step_text, steps_text, route_text, routed_line_in};
 
+use accept::opened::Snapshot;
 use find_path::{Outcome, Report};
 use line::line::put_bare;
 use line::text::put_number;
 use path_choices::choices::StepRule;
 use printing::output::put;
 use snapshot::ids::ModuleId;
-use snapshot::layout::Layout;
 
 /// A number of bytes.
 pub struct RoutedBytes;
@@ -43,6 +42,7 @@ fn put_rule(out: &mut [u8], at: usize, rule: StepRule) -> usize
 }
 
 // Puts a step after a blank: its rule, and the offset of its record.
+// Four pieces one after the other, as in `line::put_meter` and `wording::put_counts`: the pieces differ, and nothing else is there.
 fn put_step(out: &mut [u8], at: usize, step: usize) -> usize
     requires { at + 29 ≤ length out.old }
     ensures put { Put out.old at (bytes_of " " ++ step_text step) out.new result }
@@ -82,19 +82,13 @@ fn put_route(out: &mut [u8], at: usize, r: Report) -> usize
 }
 
 /// Puts the line of a report, as it is written in a module, with its route and its end at the front, and answers its length.
-pub fn put_routed(
-    out: &mut [u8],
-    words: &[u32],
-    area: &[u32],
-    l: Layout,
-    from: ModuleId,
-    r: Report,
-) -> usize
-    requires { Reads words.now area.now l × (routed_limit ≤ length out.old) × (r.count ≤ 16) × (r.steps ≤ 17) }
-    ensures { Put out.old 0 (routed_line_in (snap_of words.now area.now l) from.0 r ++ bytes_of "\n")
+// Three pieces one after the other, as in `put_refusal` of `line` and of `wording`: the pieces differ, and nothing else is there.
+pub fn put_routed(out: &mut [u8], db: &Snapshot, from: ModuleId, r: Report) -> usize
+    requires { (routed_limit ≤ length out.old) × (r.count ≤ 16) × (r.steps ≤ 17) }
+    ensures { Put out.old 0 (routed_line_in (snap_in db.now) from.0 r ++ bytes_of "\n")
         out.new result }
 {
-    let a = put_bare(out, words, area, l, from, r);
+    let a = put_bare(out, db, from, r);
     let b = put_route(out, a, r);
     put(out, b, b"\n")
 }

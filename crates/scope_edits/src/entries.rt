@@ -9,7 +9,7 @@ ghost use Rattle.accept.specs.Post.{Reads};
 ghost use Rattle.edit_rules.specs.Entries.{entry_of, scope_words};
 ghost use Rattle.edit_rules.specs.Edits.{adding, edit_fault};
 
-use crate::places::entry_place;
+use crate::places::{EntryKey, entry_place};
 use item_records::definitions::ns_placed;
 use record_rules::judge::judge;
 use snapshot::ids::{DefinitionId, Namespace, WordCount};
@@ -66,7 +66,8 @@ pub fn add_fault(words: &[u32], l: Layout, entry: &[u32], slice: usize) -> Resul
     let owner = word(entry, 0);
     let ns = word(entry, 1);
     let name = word(entry, 2);
-    let there = entry_place(words, owner, ns, name) < words.len();
+    let key = EntryKey { owner, ns, name };
+    let there = entry_place(words, key) < words.len();
     let count = words.len() + Size::SCOPE;
     let room = (count <= WordCount::SNAPSHOT) & (count <= slice);
     entry_fault(words, l, entry)?;

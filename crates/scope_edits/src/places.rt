@@ -7,7 +7,16 @@ use snapshot::kind::{Kind, arguments};
 use snapshot::record::{scope_name, scope_ns, scope_owner};
 use snapshot::words::kind;
 
+/// What an entry is known by: its module, its namespace and its name.
+#[derive(Clone, Copy)]
+pub struct EntryKey {
+    pub owner: usize,
+    pub ns: usize,
+    pub name: usize,
+}
+
 /// The end of the last scope record; where there is none, the place of the first record of a higher kind, or the end.
+// `while`: records differ in size, so the place of the next one is read; so in `entry_place`.
 pub fn scopes_end(words: &[u32]) -> usize
     requires { length words.now ≤ word_limit }
     ensures { result ≡ scopes_end words.now }
@@ -22,24 +31,26 @@ pub fn scopes_end(words: &[u32]) -> usize
     at
 }
 
-// Whether the record at a place is the entry of a module, a namespace and a name.
-fn is_entry(words: &[u32], at: usize, owner: usize, ns: usize, name: usize) -> bool
-    ensures { result ≡ is_entry (is_named owner ns name) words.now at }
+// Whether the record at a place is the entry of a key.
+fn is_entry(words: &[u32], at: usize, key: EntryKey) -> bool
+    ensures { result ≡ is_entry (is_named key.owner key.ns key.name) words.now at }
 {
     let scope = kind(words, at) == Kind::Scope as usize;
     let holder = scope_owner(words, at);
     let called = scope_name(words, at);
-    scope & ((owner == holder.0) & (ns == scope_ns(words, at)) & (name == called.0))
+    scope & ((key.owner == holder.0) & (key.ns == scope_ns(words, at)) & (key.name == called.0))
 }
 
-/// The place of the entry of a module, a namespace and a name, or the end.
-pub fn entry_place(words: &[u32], owner: usize, ns: usize, name: usize) -> usize
+/// The place of the entry of a key, or the end.
+// `while`, as in `scopes_end`.
+// The walk of `scopes_end` to another record: the tests are of two definitions, and as a closure each would need a law to its own.
+pub fn entry_place(words: &[u32], key: EntryKey) -> usize
     requires { length words.now ≤ word_limit }
-    ensures { result ≡ entry_place (is_named owner ns name) words.now }
+    ensures { result ≡ entry_place (is_named key.owner key.ns key.name) words.now }
 {
     let mut at = 0;
     while at < words.len() {
-        if is_entry(words, at, owner, ns, name) {
+        if is_entry(words, at, key) {
             return at;
         }
         at = at + 1 + arguments(words, at);

@@ -39,6 +39,7 @@ abbrev pub Follows : List ℕ → Layout → ℕ → ℕ → Type 0
 Follows W l m k = 0 < k → owner_at W l (k - 1) ≡ m
 
 -- the records from k on are chained
+-- (a clause and no type: the area is written between, and a value with this fact would have to be made anew after each write)
 pub record Indexed (W : List ℕ) (l : Layout) (k : ℕ) (A : List ℕ) : Type 0 where
   pub heads : (m : ℕ) → m < l.modules → First W l m k (head_at A m)
   pub links : (j : ℕ) → k ≤ j → j < l.scopes → First W l (owner_at W l j) (j + 1) (link_at A j)

@@ -1,57 +1,56 @@
 //! The declaration of an entry's item, and whether an entry is seen.
-ghost use Rattle.std.specs.Prelude.{◌≡◌, List, ℕ, suc, ◌^◌, ◌<◌};
+ghost use Rattle.std.specs.Prelude.{◌≡◌, List, ℕ, suc, ◌<◌};
 ghost use Rattle.snapshot.specs.Ids.{plus_one};
 ghost use Rattle.snapshot.specs.Records.{scope_at};
-ghost use Rattle.snapshot.specs.Layouts.{word_count, snap_of};
+ghost use Rattle.snapshot.specs.Laid.{snap_by};
 ghost use Rattle.record_rules.specs.Stands.{counts_in};
-ghost use Rattle.accept.specs.Post.{Reads};
 ghost use Rattle.accept.specs.Valid.{ScopeFits};
+ghost use Rattle.accept.specs.Opened.{snap_in};
 ghost use Rattle.hir_def.specs.Entries.{entry_of};
 ghost use Rattle.nameable.specs.Seen.{is_declaration, declared_ns, declared_as, declared_in, declaration_in, declaration_of, both_hold, holds_in};
 ghost use Rattle.nameable.specs.Seen.{seen as seen_from};
 
 use crate::privacy::holds;
+use accept::opened::Snapshot;
 use hir_def::Item;
 use hir_def::finds::first_where;
-use hir_def::items::{first_of, home_of, kind_of};
+use hir_def::items::{first_of, home_of, known_kind_of};
 use item_scope::is_declared;
 use module_tree::modules::parent;
 use snapshot::ids::{DefinitionId, DefinitionKind, ModuleId, Namespace};
 use snapshot::kind::Size;
-use snapshot::layout::Layout;
 use snapshot::record::{scope_definition, scope_ns, scope_owner, scope_seen};
+use snapshot::records::Records;
 
 // The namespace in which what stands for a definition is declared: of a variant types.
-fn declared_ns(words: &[u32], l: Layout, ns: usize, d: DefinitionId) -> usize
-    requires { word_count l < 2 ^ 32 }
-    ensures { (A : List ℕ) → result ≡ declared_ns (snap_of words.now A l) ns d.0 }
+fn declared_ns(records: &Records, ns: usize, d: DefinitionId) -> usize
+    ensures { (A : List ℕ) → result ≡ declared_ns (snap_by records.now A) ns d.0 }
 {
-    if kind_of(words, l, d) == Some(DefinitionKind::Variant) {
+    if known_kind_of(records, d) == Some(DefinitionKind::Variant) {
         return Namespace::TYPES;
     }
     ns
 }
 
 // What is declared for a definition: for a variant its enum.
-fn declared_as(words: &[u32], l: Layout, d: DefinitionId) -> DefinitionId
-    requires { word_count l < 2 ^ 32 }
-    ensures { (A : List ℕ) → result.0 ≡ declared_as (snap_of words.now A l) d.0 }
+fn declared_as(records: &Records, d: DefinitionId) -> DefinitionId
+    ensures { (A : List ℕ) → result.0 ≡ declared_as (snap_by records.now A) d.0 }
 {
-    if kind_of(words, l, d) == Some(DefinitionKind::Variant) {
-        return DefinitionId(first_of(words, l, d));
+    if known_kind_of(records, d) == Some(DefinitionKind::Variant) {
+        return DefinitionId(first_of(records, d));
     }
     d
 }
 
 // The module in which that is declared: its home, for a module the parent.
-fn declared_in(words: &[u32], area: &[u32], l: Layout, d: DefinitionId) -> Option<ModuleId>
-    requires { Reads words.now area.now l × (d.0 < l.definitions) }
-    ensures { plus_one result ≡ declared_in (snap_of words.now area.now l) d.0 }
+fn declared_in(db: &Snapshot, d: DefinitionId) -> Option<ModuleId>
+    requires { d.0 < db.now.records.layout.definitions }
+    ensures { plus_one result ≡ declared_in (snap_in db.now) d.0 }
 {
-    if kind_of(words, l, d) == Some(DefinitionKind::Module) {
-        return parent(words, area, l, ModuleId(first_of(words, l, d)));
+    if known_kind_of(&db.records, d) == Some(DefinitionKind::Module) {
+        return parent(db, ModuleId(first_of(&db.records, d)));
     }
-    home_of(words, l, Item::Def(Namespace(Namespace::TYPES), d))
+    home_of(&db.records, Item::Def(Namespace(Namespace::TYPES), d))
 }
 
 // Whether the entry with its head at a place is the module's declared one for a namespace and a definition.
@@ -68,62 +67,60 @@ fn is_declaration(words: &[u32], h: usize, m: ModuleId, ns: usize, d: Definition
 }
 
 // The declared entry of a module for a namespace and a definition.
-fn declaration_in(
-    words: &[u32],
-    l: Layout,
-    m: ModuleId,
-    ns: usize,
-    d: DefinitionId,
-) -> Option<usize>
-    requires { word_count l < 2 ^ 32 }
-    ensures { (A : List ℕ) → entry_of scope_at words.now result ≡ declaration_in (snap_of words.now A l) ns
+fn declaration_in(records: &Records, m: ModuleId, ns: usize, d: DefinitionId) -> Option<usize>
+    ensures { (A : List ℕ) → entry_of scope_at records.now.words.now result ≡ declaration_in (snap_by records.now A) ns
         d.0 (suc m.0) }
 {
-    let test = |h| is_declaration(words, h, m, ns, d);
-    first_where(l.scope_base(), Size::SCOPE, l.scopes, test)
+    let test = |h| is_declaration(records.words, h, m, ns, d);
+    first_where(
+        records.layout.scope_base(),
+        Size::SCOPE,
+        records.layout.scopes,
+        test,
+    )
 }
 
 /// The declaration of the item of the entry with its head at a place.
-pub fn declaration_of(words: &[u32], area: &[u32], l: Layout, h: usize) -> Option<usize>
-    requires { Reads words.now area.now l × ScopeFits (counts_in l) (scope_at words.now h) }
-    ensures { entry_of scope_at words.now result ≡ declaration_of (snap_of words.now area.now l)
-        (scope_at words.now h) }
+pub fn declaration_of(db: &Snapshot, h: usize) -> Option<usize>
+    requires { ScopeFits (counts_in db.now.records.layout) (scope_at db.now.records.words.now h) }
+    ensures { entry_of scope_at db.now.records.words.now result ≡ declaration_of (snap_in db.now)
+        (scope_at db.now.records.words.now h) }
 {
-    let d = scope_definition(words, h);
-    let m = declared_in(words, area, l, d)?;
-    let ns = declared_ns(words, l, scope_ns(words, h), d);
-    declaration_in(words, l, m, ns, declared_as(words, l, d))
+    let d = scope_definition(db.records.words, h);
+    let m = declared_in(db, d)?;
+    let ns = declared_ns(&db.records, scope_ns(db.records.words, h), d);
+    declaration_in(&db.records, m, ns, declared_as(&db.records, d))
 }
 
 // Whether the visibility of the entry with its head at a place holds in a module.
-fn holds_at(words: &[u32], area: &[u32], l: Layout, v: ModuleId, h: usize) -> bool
-    requires { Reads words.now area.now l × (v.0 < l.modules) × ScopeFits (counts_in l) (scope_at words.now h) }
-    ensures { result ≡ holds_in (snap_of words.now area.now l) v.0 (scope_at words.now h) }
+fn holds_at(db: &Snapshot, v: ModuleId, h: usize) -> bool
+    requires { (v.0 < db.now.records.layout.modules) × ScopeFits (counts_in db.now.records.layout) (scope_at db.now.records.words.now h) }
+    ensures { result ≡ holds_in (snap_in db.now) v.0 (scope_at db.now.records.words.now h) }
 {
-    holds(words, area, l, scope_seen(words, h), v)
+    holds(db, scope_seen(db.records.words, h), v)
 }
 
 // Whether that and its declaration's both hold in a module.
-fn both_hold(words: &[u32], area: &[u32], l: Layout, v: ModuleId, h: usize) -> bool
-    requires { Reads words.now area.now l × (v.0 < l.modules) × ScopeFits (counts_in l) (scope_at words.now h) }
-    ensures { result ≡ both_hold (snap_of words.now area.now l) v.0 (scope_at words.now h) }
+fn both_hold(db: &Snapshot, v: ModuleId, h: usize) -> bool
+    requires { (v.0 < db.now.records.layout.modules) × ScopeFits (counts_in db.now.records.layout) (scope_at db.now.records.words.now h) }
+    ensures { result ≡ both_hold (snap_in db.now) v.0 (scope_at db.now.records.words.now h) }
 {
-    if holds_at(words, area, l, v, h) {
-        let Some(e) = declaration_of(words, area, l, h) else {
+    if holds_at(db, v, h) {
+        let Some(e) = declaration_of(db, h) else {
             return true;
         };
-        return holds_at(words, area, l, v, e);
+        return holds_at(db, v, e);
     }
     false
 }
 
 /// Whether the entry with its head at a place counts in its module and is seen from the viewer.
-pub fn seen(words: &[u32], area: &[u32], l: Layout, from: ModuleId, h: usize) -> bool
-    requires { Reads words.now area.now l × (from.0 < l.modules) × ScopeFits (counts_in l) (scope_at words.now h) }
-    ensures { result ≡ seen_from (snap_of words.now area.now l) from.0 (scope_at words.now h) }
+pub fn seen(db: &Snapshot, from: ModuleId, h: usize) -> bool
+    requires { (from.0 < db.now.records.layout.modules) × ScopeFits (counts_in db.now.records.layout) (scope_at db.now.records.words.now h) }
+    ensures { result ≡ seen_from (snap_in db.now) from.0 (scope_at db.now.records.words.now h) }
 {
-    if both_hold(words, area, l, scope_owner(words, h), h) {
-        return both_hold(words, area, l, from, h);
+    if both_hold(db, scope_owner(db.records.words, h), h) {
+        return both_hold(db, from, h);
     }
     false
 }

@@ -3,7 +3,7 @@ use Rattle.arrivals.specs.declared.LastStep.{LastStep}
 use Prim.Native.Nat.{ℕ, ◌+◌, ◌≤◌, ◌<◌}
 use mathlib.Core.Path.{◌≡◌, refl, sym, ap, ◌∙◌}
 use mathlib.Core.List.{List}
-use mathlib.Core.Bool.{Bool, true, false, ◌&&◌, not, true≢false}
+use mathlib.Core.Bool.{Bool, true, false, ◌&&◌, not}
 use Rattle.std.specs.Prelude.{Option, None, Some, option_map}
 use native.Mathlib.Omega.{arith}
 use borrow.Author.Tests.{lt-ltb, le-ltb, eq-eqb, ne_eqb, not-true, not-false}
@@ -27,8 +27,8 @@ use Rattle.any_path.specs.Rows.{Stays, Grown}
 use Rattle.any_path.proofs.Taken.{stays_snap, stays_reads}
 use Rattle.arrivals.specs.Steps.{LeadsTo, Ready}
 use Rattle.told_paths.specs.declared.ToldPath.{ToldPath}
-use Rattle.told_paths.specs.Tells.{step_link, told_none, tell, told_by}
-use Rattle.told_paths.proofs.Laws.{tell_found}
+use Rattle.told_paths.specs.Tells.{step_link, tell}
+use Rattle.told_paths.proofs.Laws.{told_gone, told_there}
 
 pub leads_link : (s : Snapshot) (from ns : ℕ) (A : List ℕ) (n : ℕ) (o : Option Path) (q : Option LastStep) → LeadsTo s from ns A n o q → step_link q < n + 3
 unfolding LeadsTo step_link
@@ -82,9 +82,8 @@ module _ (b : Bool) (s : Snapshot) (from ns d : ℕ) where
   unfolding by_enum
   other_none h = rw (by_enum, ne_eqb (definition_of s d).kind variant_kind h)
 
-  pub enum_other : ((definition_of s d).kind ≡ variant_kind → ⊥) → {t : ToldPath} → t ≡ told_none → t ≡ told_by (by_enum b s from (defined_item ns d))
-  unfolding told_by
-  enum_other h e = e ∙ sym (ap told_by (other_none h))
+  pub enum_other : ((definition_of s d).kind ≡ variant_kind → ⊥) → None ≡ option_map tell (by_enum b s from (defined_item ns d))
+  enum_other h = sym (ap (option_map tell) (other_none h))
 
   module _ (v : (definition_of s d).kind ≡ variant_kind) (e n : ℕ) (ee : e ≡ (definition_of s d).first) (en : n ≡ (definition_of s d).second) where
     abbrev way : Option Path
@@ -111,44 +110,40 @@ module _ (b : Bool) (s : Snapshot) (from ns d : ℕ) where
     no_path p h t = rw (first_of, enum_means p h, t)
 
     -- it is not this one that the name means
-    pub enum_not : {r : Bool} {t : ToldPath} → r ≡ is_item (defined_item ns d) (item_in (named n (variants_in s ns e))) → not r ≡ true → t ≡ told_none
-        → t ≡ told_by (by_enum b s from (defined_item ns d))
-    unfolding variant_after told_by
-    enum_not {r} er h et =
+    pub enum_not : {r : Bool} → r ≡ is_item (defined_item ns d) (item_in (named n (variants_in s ns e))) → not r ≡ true
+        → None ≡ option_map tell (by_enum b s from (defined_item ns d))
+    unfolding variant_after
+    enum_not {r} er h =
         let no : test ≡ false = sym er ∙ not-true r h in
         let none_there : variant_after s from its n way ≡ None =
         by_option way (λ z. ap (variant_after s from its n) z) (λ p z. ap (variant_after s from its n) z ∙ no_path p z no) in
-        et ∙ sym (ap told_by (enum_path ∙ none_there))
+        sym (ap (option_map tell) (enum_path ∙ none_there))
 
-    module _ {a : ToldPath} (ea : a ≡ told_by (arrival b s from (defined_item types e))) where
+    module _ {a : Option ToldPath} (ea : a ≡ option_map tell (arrival b s from (defined_item types e))) where
       -- no path to the enum
-      pub enum_nowhere : {t : ToldPath} → not a.found ≡ true → t ≡ told_none → t ≡ told_by (by_enum b s from (defined_item ns d))
-      unfolding variant_after told_by
-      enum_nowhere h et =
-          by_option way
-          (λ z. et ∙ sym (ap told_by (enum_path ∙ ap (variant_after s from its n) z)))
-          (λ p z. absurd (true≢false (sym (tell_found p) ∙ (sym (ap (λ (u : ToldPath). u.found) (ea ∙ ap told_by z)) ∙ not-true a.found h))))
+      pub enum_nowhere : a ≡ None → None ≡ option_map tell (by_enum b s from (defined_item ns d))
+      unfolding variant_after
+      enum_nowhere h =
+          sym (ap (option_map tell) (enum_path ∙ ap (variant_after s from its n) (told_gone way (sym h ∙ ea))))
 
       -- one name more
-      pub enum_there : {r : Bool} {t : ToldPath} → r ≡ is_item (defined_item ns d) (item_in (named n (variants_in s ns e))) → not r ≡ false
-          → not a.found ≡ false → ((p : Path) → a ≡ tell p → t ≡ tell (into p n)) → t ≡ told_by (by_enum b s from (defined_item ns d))
-      unfolding variant_after told_by told_none
+      pub enum_there : {r : Bool} {u t : ToldPath} → r ≡ is_item (defined_item ns d) (item_in (named n (variants_in s ns e))) → not r ≡ false
+          → a ≡ Some u → ((p : Path) → u ≡ tell p → t ≡ tell (into p n)) → Some t ≡ option_map tell (by_enum b s from (defined_item ns d))
+      unfolding variant_after
       enum_there {r} er hr h et =
           let yes : test ≡ true = sym er ∙ not-false r hr in
-          by_option way
-          (λ z. absurd (true≢false (sym (not-false a.found h) ∙ ap (λ (u : ToldPath). u.found) (ea ∙ ap told_by z))))
-          (λ p z.
-          et p (ea ∙ ap told_by z)
-          ∙ sym (ap told_by (enum_path ∙ (ap (variant_after s from its n) z ∙ one_path p z yes))))
+          let p = told_there way (sym h ∙ ea) in
+          ap Some (et p.0 p.2)
+          ∙ sym (ap (option_map tell) (enum_path ∙ (ap (variant_after s from its n) p.1 ∙ one_path p.0 p.1 yes)))
 
-pub enum_module : (b : Bool) (s : Snapshot) (from : ℕ) {item : Item} {t : ToldPath} (m : ℕ) → item ≡ module_item m → t ≡ told_none
-    → t ≡ told_by (by_enum b s from item)
-unfolding by_enum told_by
-enum_module b s from m e et = et ∙ sym (ap (λ (i : Item). told_by (by_enum b s from i)) e)
+pub enum_module : (b : Bool) (s : Snapshot) (from : ℕ) {item : Item} (m : ℕ) → item ≡ module_item m
+    → None ≡ option_map tell (by_enum b s from item)
+unfolding by_enum
+enum_module b s from m e = sym (ap (λ (i : Item). option_map tell (by_enum b s from i)) e)
 
-pub enum_as : (b : Bool) (s : Snapshot) (from : ℕ) {item : Item} {t : ToldPath} (ns d : ℕ) → item ≡ defined_item ns d
-    → t ≡ told_by (by_enum b s from (defined_item ns d)) → t ≡ told_by (by_enum b s from item)
-enum_as b s from ns d e et = et ∙ sym (ap (λ (i : Item). told_by (by_enum b s from i)) e)
+pub enum_as : (b : Bool) (s : Snapshot) (from : ℕ) {item : Item} {t : Option ToldPath} (ns d : ℕ) → item ≡ defined_item ns d
+    → t ≡ option_map tell (by_enum b s from (defined_item ns d)) → t ≡ option_map tell (by_enum b s from item)
+enum_as b s from ns d e et = et ∙ sym (ap (λ (i : Item). option_map tell (by_enum b s from i)) e)
 
 -- The rows of a run, in the area after it.
 module _ (W A : List ℕ) (l : Layout) (r : Reads W A l) (from : ℕ) (b : Bool) {B : List ℕ} {n : ℕ}
@@ -162,20 +157,20 @@ module _ (W A : List ℕ) (l : Layout) (r : Reads W A l) (from : ℕ) (b : Bool)
   pub run_reads : Reads W B l
   run_reads = stays_reads W A B l r g.stays
 
-  run_told : (item : Item) {t : ToldPath} → t ≡ told_by (shortest_of b (snap_of W B l) from item) → t ≡ told_by (shortest_of b (snap_of W A l) from item)
-  run_told item e = e ∙ ap (λ (u : Snapshot). told_by (shortest_of b u from item)) same_snap
+  run_told : (item : Item) {t : Option ToldPath} → t ≡ option_map tell (shortest_of b (snap_of W B l) from item) → t ≡ option_map tell (shortest_of b (snap_of W A l) from item)
+  run_told item e = e ∙ ap (λ (u : Snapshot). option_map tell (shortest_of b u from item)) same_snap
 
 -- Both runs.
 pub both_told : (W A : List ℕ) (l : Layout) (r : Reads W A l) (from : ℕ) {B C : List ℕ} {n m : ℕ}
     → Grown l.modules A 0 B n (run false (snap_of W A l) from) → Grown l.modules B 0 C m (run true (snap_of W B l) from)
-    → (item : Item) {a b t : ToldPath} → a ≡ told_by (shortest_of false (snap_of W B l) from item)
-    → b ≡ told_by (shortest_of true (snap_of W C l) from item)
-    → ((p q : Option Path) → a ≡ told_by p → b ≡ told_by q → t ≡ told_by (shorter p q))
-    → (t ≡ told_by (shortest (snap_of W A l) from item)) × Stays A C
+    → (item : Item) {a b t : Option ToldPath} → a ≡ option_map tell (shortest_of false (snap_of W B l) from item)
+    → b ≡ option_map tell (shortest_of true (snap_of W C l) from item)
+    → ((p q : Option Path) → a ≡ option_map tell p → b ≡ option_map tell q → t ≡ option_map tell (shorter p q))
+    → (t ≡ option_map tell (shortest (snap_of W A l) from item)) × Stays A C
 unfolding shortest
 both_told W A l r from {B} g h item ea eb et = (
   et (shortest_of false (snap_of W A l) from item) (shortest_of true (snap_of W A l) from item) (run_told W A l r from false g item ea)
       (run_told W B l (run_reads W A l r from false g) from true h item eb
-      ∙ ap (λ (u : Snapshot). told_by (shortest_of true u from item)) (same_snap W A l r from false g)),
+      ∙ ap (λ (u : Snapshot). option_map tell (shortest_of true u from item)) (same_snap W A l r from false g)),
   λ i k. h.stays i k ∙ g.stays i k,
 )

@@ -1,93 +1,80 @@
 //! A variant by its enum.
-ghost use Rattle.std.specs.Prelude.{◌≡◌, List, ℕ, ◌^◌, ◌<◌};
-ghost use Rattle.snapshot.specs.Layouts.{word_count, snap_of};
-ghost use Rattle.accept.specs.Post.{Reads};
+ghost use Rattle.std.specs.Prelude.{◌≡◌, List, ℕ, ◌<◌, option_map};
+ghost use Rattle.snapshot.specs.Laid.{snap_by};
+ghost use Rattle.accept.specs.Opened.{snap_in};
 ghost use Rattle.hir_def.specs.Items.{defined_item};
 ghost use Rattle.nameable.specs.Paths.{named as named_in, variants_in, item_in};
 ghost use Rattle.nameable.specs.Breadth.{is_item, by_enum};
 ghost use Rattle.arrivals.specs.Steps.{Ready};
-ghost use Rattle.told_paths.specs.Tells.{told_by};
+ghost use Rattle.told_paths.specs.Tells.{tell};
 
 use crate::told::arrival_told;
+use accept::opened::Snapshot;
 use hir_def::Item;
-use hir_def::items::{first_of, kind_of, second_of};
+use hir_def::items::{first_of, known_kind_of, second_of};
 use read_back::lookups::variant_named;
 use snapshot::ids::{DefinitionId, DefinitionKind, ModuleId, Name, Namespace};
-use snapshot::layout::Layout;
 use snapshot::record::member_definition;
+use snapshot::records::Records;
 use told_paths::ToldPath;
-use told_paths::paths::{more, nothing};
+use told_paths::paths::more;
 
 // Whether the enum's first variant of that name is the definition.
-fn is_variant(
-    words: &[u32],
-    l: Layout,
-    ns: usize,
-    e: DefinitionId,
-    name: Name,
-    d: DefinitionId,
-) -> bool
-    requires { word_count l < 2 ^ 32 }
+fn is_variant(records: &Records, ns: usize, e: DefinitionId, name: Name, d: DefinitionId) -> bool
     ensures { (A : List ℕ)
-        → result ≡ is_item (defined_item ns d.0) (item_in (named_in name.0 (variants_in (snap_of words.now A l) ns e.0))) }
+        → result ≡ is_item (defined_item ns d.0) (item_in (named_in name.0 (variants_in (snap_by records.now A) ns e.0))) }
 {
     if Namespace::MACROS <= ns {
         return false;
     }
-    let Some(h) = variant_named(words, l, e, name) else {
+    let Some(h) = variant_named(records, e, name) else {
         return false;
     };
-    let its = member_definition(words, h);
+    let its = member_definition(records.words, h);
     its.0 == d.0
 }
 
 // A definition by its enum's first path and its own name.
 // `named` is passed on as it came: the clause is over it.
 fn variant_told(
-    words: &[u32],
-    area: &[u32],
-    l: Layout,
+    db: &Snapshot,
     from: ModuleId,
     n: usize,
     ns: Namespace,
     d: DefinitionId,
     named: bool,
-) -> ToldPath
-    requires { Reads words.now area.now l × (from.0 < l.modules) × Ready named (snap_of words.now area.now l) from.0
-        l.modules area.now n }
-    ensures { result ≡ told_by (by_enum named (snap_of words.now area.now l) from.0 (defined_item ns.0 d.0)) }
+) -> Option<ToldPath>
+    requires { (from.0 < db.now.records.layout.modules) × Ready named (snap_in db.now) from.0
+        db.now.records.layout.modules db.now.area.now n }
+    ensures { result ≡ option_map tell (by_enum named (snap_in db.now) from.0 (defined_item ns.0 d.0)) }
 {
-    if kind_of(words, l, d) != Some(DefinitionKind::Variant) {
-        return nothing();
+    if known_kind_of(&db.records, d) != Some(DefinitionKind::Variant) {
+        return None;
     }
-    let e = DefinitionId(first_of(words, l, d));
-    let name = Name(second_of(words, l, d));
-    if !is_variant(words, l, ns.0, e, name, d) {
-        return nothing();
+    let e = DefinitionId(first_of(&db.records, d));
+    let name = Name(second_of(&db.records, d));
+    if !is_variant(&db.records, ns.0, e, name, d) {
+        return None;
     }
     let its = Item::Def(Namespace(Namespace::TYPES), e);
-    let t = arrival_told(words, area, l, from, n, its, named);
-    if !t.found {
-        return nothing();
-    }
-    more(t, name.0)
+    let t = arrival_told(db, from, n, its, named)?;
+    Some(more(t, name.0))
 }
 
+// `named` as in `variant_told`.
 pub(crate) fn enum_told(
-    words: &[u32],
-    area: &[u32],
-    l: Layout,
+    db: &Snapshot,
     from: ModuleId,
     n: usize,
     item: Item,
     named: bool,
-) -> ToldPath
-    requires { Reads words.now area.now l × (from.0 < l.modules) × Ready named (snap_of words.now area.now l) from.0
-        l.modules area.now n }
-    ensures { result ≡ told_by (by_enum named (snap_of words.now area.now l) from.0 item) }
+) -> Option<ToldPath>
+    requires { (from.0 < db.now.records.layout.modules) × Ready named (snap_in db.now) from.0
+        db.now.records.layout.modules db.now.area.now n }
+    ensures { result ≡ option_map tell (by_enum named (snap_in db.now) from.0 item) }
 {
     match item {
-        Item::Mod(_) => nothing(),
-        Item::Def(ns, d) => variant_told(words, area, l, from, n, ns, d, named),
+        Item::Mod(_) => None,
+        Item::Def(ns, d) => variant_told(db, from, n, ns, d, named),
     }
 }

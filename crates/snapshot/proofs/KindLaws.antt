@@ -1,20 +1,18 @@
 -- What a kind says of its number.
 use Prim.Native.Nat.{ℕ, zero, suc, ◌≤◌}
 use mathlib.Core.Path.{◌≡◌, refl, sym}
-use mathlib.Core.Bool.{true, false, not, ◌&&◌}
+use mathlib.Core.Bool.{false, not, ◌&&◌}
 use native.Mathlib.Omega.{arith}
 use lib.Dec.{eqb, leb}
 use borrow.Author.Tests.{ne_eqb}
 use Rattle.std.specs.Prelude.{Some, None, MatchOption, is_some}
 use Rattle.std.proofs.lemmas.Option.{MatchOption-at_some, MatchOption-at_none}
 use Rattle.snapshot.specs.DefinitionKinds.{definition_kind_number, definition_kind_of}
-use Rattle.snapshot.specs.MemberKinds.{member_kind_of}
 use Rattle.snapshot.specs.Kinds.{kind_number, kind_with}
 use Rattle.snapshot.specs.Visibilities.{visibility_of}
 use Rattle.snapshot.specs.declared.ids.DefinitionKind.{DefinitionKind}
 use Rattle.snapshot.specs.declared.ids.Visibility.TheVariants.{InModule}
 use Rattle.snapshot.specs.declared.kind.Kind.{Kind}
-use Rattle.snapshot.specs.declared.kind.Kind.TheVariants.{Name, Crate, Dependency, Map, Module, Child, Prelude, Definition, Scope, Import, Extern, Member}
 
 -- the number of the kind that is there, and none beyond them
 
@@ -40,14 +38,6 @@ definition_there (suc (suc (suc (suc zero)))) = refl
 definition_there (suc (suc (suc (suc (suc zero))))) = refl
 definition_there (suc (suc (suc (suc (suc (suc n)))))) = grind arith
 
--- and one for a member's numbers up to 3
-pub member_there : (n : ℕ) → is_some (member_kind_of n) ≡ leb n 3
-member_there zero = refl
-member_there (suc zero) = refl
-member_there (suc (suc zero)) = refl
-member_there (suc (suc (suc zero))) = refl
-member_there (suc (suc (suc (suc n)))) = grind arith
-
 -- The kinds of records: the number of one that is there, and none beyond them
 
 kind_numbered : (n : ℕ) → MatchOption (kind_with n) (leb 1 n && leb n 13 && not (eqb n 12) ≡ false) (λ k. kind_number k ≡ n)
@@ -72,20 +62,6 @@ kind_known n e = sym (MatchOption-at_some _ _ _ e (kind_numbered n))
 
 pub kind_unknown : (n : ℕ) → kind_with n ≡ None → leb 1 n && leb n 13 && not (eqb n 12) ≡ false
 kind_unknown n e = MatchOption-at_none _ _ e (kind_numbered n)
-
-pub kind_bounds : (k : Kind) → leb 1 (kind_number k) && leb (kind_number k) 13 && not (eqb (kind_number k) 12) ≡ true
-kind_bounds Name = refl
-kind_bounds Crate = refl
-kind_bounds Dependency = refl
-kind_bounds Map = refl
-kind_bounds Module = refl
-kind_bounds Child = refl
-kind_bounds Prelude = refl
-kind_bounds Definition = refl
-kind_bounds Scope = refl
-kind_bounds Import = refl
-kind_bounds Extern = refl
-kind_bounds Member = refl
 
 -- a visibility with a kind beyond them is a module's
 pub other_visibility : (k n : ℕ) → visibility_of (suc (suc (suc (suc k)))) n ≡ InModule (record { 0 = n })

@@ -12,3 +12,4 @@ pub mod PathKinds
 pub mod Visibilities
 pub mod Origins
 pub mod Layouts
+pub mod Laid

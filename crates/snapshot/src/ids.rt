@@ -1,6 +1,8 @@
 //! Numbers that never stand in for one another, with their limits.
+//! Records hold numbers, so each of these types is one. The enums list the numbers of a format: of three and more, where an `Option` has two.
 ghost use Rattle.std.specs.Prelude.{◌≡◌};
 ghost use Rattle.snapshot.specs.Ids.{plus_one};
+ghost use Rattle.snapshot.specs.Origins.{origin_number};
 ghost use Rattle.snapshot.specs.DefinitionKinds.{definition_kind_of};
 ghost use Rattle.snapshot.specs.MemberKinds.{member_kind_of};
 ghost use Rattle.snapshot.specs.PathKinds.{path_kind_of};
@@ -16,6 +18,7 @@ impl ModuleId {
 }
 
 /// The module of a number +1, none for 0.
+// Here such a word of the format or of the work area becomes an `Option`.
 pub fn opt_module(n: usize) -> Option<ModuleId>
     ensures { plus_one result ≡ n }
 {
@@ -47,6 +50,13 @@ pub enum CrateOrigin {
 impl CrateOrigin {
     /// The number of an origin, at most.
     pub const LIMIT: usize = CrateOrigin::OtherLanguage as usize;
+
+    /// The number that records give.
+    pub fn number(self) -> usize
+        ensures { result ≡ origin_number self }
+    {
+        self as usize
+    }
 }
 
 /// A definition of the snapshot.
@@ -93,7 +103,7 @@ pub enum DefinitionKind {
     Macro,
 }
 
-// Each enum has its own match: here a word becomes a variant, and a table of variants would need a test of its length beside it.
+// A `match` on the numbers of the format: here a word becomes a variant. A table of variants would need a test of its length, a transmute an unsafe step.
 impl DefinitionKind {
     /// The kind with a number.
     pub fn of(number: usize) -> Option<DefinitionKind>
@@ -119,6 +129,7 @@ pub enum MemberKind {
     TypeAlias,
 }
 
+// A `match` on the numbers of the format, as in `DefinitionKind::of`.
 impl MemberKind {
     /// The kind with a number.
     pub fn of(number: usize) -> Option<MemberKind>
@@ -143,6 +154,7 @@ pub enum Visibility {
     Implied(ModuleId),
 }
 
+// A `match` on the numbers of the format, as in `DefinitionKind::of`; the variants hold the other number, so no table could list them.
 impl Visibility {
     /// The visibility with that kind and number.
     pub fn of(kind: usize, number: usize) -> Visibility
@@ -167,7 +179,7 @@ pub enum PathKind {
     Absolute,
 }
 
-// `DefinitionKind::of` has as many arms over other variants; a macro of both is not allowed, and a trait would keep both matches.
+// A `match` on the numbers of the format, as in `DefinitionKind::of`, over other variants; a macro of both is not allowed, and a trait would keep both.
 impl PathKind {
     /// The path kind with a number.
     pub fn of(number: usize) -> Option<PathKind>
@@ -232,3 +244,6 @@ impl WordCount {
     /// Words of a work area, at least.
     pub const AREA: usize = 16384;
 }
+
+/// The work area of a check or of a search: what is lent may have more words, and the first of them serve.
+pub type Area = [u32; WordCount::AREA];

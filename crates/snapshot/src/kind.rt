@@ -7,6 +7,7 @@ ghost use Rattle.snapshot.specs.Sizes.{argument_table, arguments_at};
 use crate::words::{kind, payload};
 
 /// A record's kind.
+// The kinds of the format, twelve where an `Option` has two; that a number is no kind is the `None` of `of`.
 #[derive(Clone, Copy, PartialEq, Eq)]
 pub enum Kind {
     Name = 1,
@@ -23,6 +24,7 @@ pub enum Kind {
     Member = 13,
 }
 
+// A `match` on the numbers of the format, as in `DefinitionKind::of`; a table would have a hole at 12, which is no record's kind.
 impl Kind {
     /// The kind that the head of an argument has.
     pub const ARGUMENT: usize = 0;

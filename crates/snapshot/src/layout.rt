@@ -49,6 +49,7 @@ impl Layout {
         }
     }
 
+    // That the words are few is a clause of each base: the check asks for one while the layout grows. Above the check `Records` holds it.
     pub fn dependency_base(self) -> usize
         requires { word_count self < 2 ^ 32 }
         ensures { result ≡ dependency_base self }

@@ -5,6 +5,7 @@ pub mod ids;
 pub mod kind;
 pub mod layout;
 pub mod record;
+pub mod records;
 pub mod refusal;
 pub mod table;
 pub mod text;

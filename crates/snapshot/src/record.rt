@@ -101,11 +101,18 @@ pub fn prelude_target(words: &[u32], at: usize) -> ModuleId
     ModuleId(field(words, at, 1))
 }
 
+/// The number of a `DefinitionKind`, or another.
+pub fn definition_kind(words: &[u32], at: usize) -> usize
+    ensures { result ≡ (definition_at words.now at).kind }
+{
+    payload(words, at)
+}
+
 /// None for a number that is no kind's.
-pub fn definition_kind(words: &[u32], at: usize) -> Option<DefinitionKind>
+pub fn known_definition_kind(words: &[u32], at: usize) -> Option<DefinitionKind>
     ensures { result ≡ definition_kind_of (definition_at words.now at).kind }
 {
-    DefinitionKind::of(payload(words, at))
+    DefinitionKind::of(definition_kind(words, at))
 }
 
 pub fn definition_first(words: &[u32], at: usize) -> usize
@@ -248,11 +255,18 @@ pub fn member_definition(words: &[u32], at: usize) -> DefinitionId
     DefinitionId(field(words, at, 2))
 }
 
+/// The number of a `MemberKind`, or another.
+pub fn member_kind(words: &[u32], at: usize) -> usize
+    ensures { result ≡ (member_at words.now at).kind }
+{
+    field(words, at, 3)
+}
+
 /// None for a number that is no kind's.
-pub fn member_kind(words: &[u32], at: usize) -> Option<MemberKind>
+pub fn known_member_kind(words: &[u32], at: usize) -> Option<MemberKind>
     ensures { result ≡ member_kind_of (member_at words.now at).kind }
 {
-    MemberKind::of(field(words, at, 3))
+    MemberKind::of(member_kind(words, at))
 }
 
 /// 1 hidden + 2 unstable.

@@ -3,6 +3,7 @@ ghost use Rattle.std.specs.Prelude.{◌≡◌, ◌≤◌};
 ghost use Rattle.snapshot.specs.Refusals.{refusal_number, join_refusal};
 
 /// Why something is refused.
+// The error of each `Result`, so none itself.
 #[derive(Clone, Copy, PartialEq, Eq)]
 pub enum Refusal {
     /// A work area with too few words.

@@ -1,4 +1,5 @@
 //! The tables that the check leaves in the work area.
+//! They are words of the work area, so where there may be none 0 stands for it; `opt_module` makes an `Option` of such a word.
 ghost use Rattle.std.specs.Prelude.{◌≡◌, ◌+◌, ◌*◌, ◌^◌, ◌<◌};
 ghost use Rattle.snapshot.specs.Layouts.{name_head, module_map, module_head, module_parent, map_root, own_map};
 

@@ -16,6 +16,7 @@ pub struct Unread {
 
 /// Reads until the bytes are full, the input ends or a read fails: what was read stands at the front, and where no read failed
 /// and the bytes are not full, the input is at its end.
+// `while`: each read tells how far it came. `read_exact` does not tell how much there was, where the input ends.
 pub fn read_from<R: Read>(reader: &mut R, bytes: &mut [u8]) -> Result<usize, Unread>
     ensures count { MatchResult result (λ n. IsPrefixLen n bytes.new) (λ e. IsPrefixLen e.count bytes.new) }
     ensures bytes { MatchResult result
@@ -57,6 +58,7 @@ pub fn say_unread(rt: &impl Eprint) {
 }
 
 /// Writes a text whole, or fails.
+// `write_all` alone; the function stays for its clause, in terms of what stands in the writer.
 pub fn write_to<W: Write>(writer: &mut W, text: &[u8]) -> io::Result<()>
     ensures { OnOk result (Appends (W.contents writer.old) (W.contents writer.new) text.now) }
 {
@@ -64,6 +66,7 @@ pub fn write_to<W: Write>(writer: &mut W, text: &[u8]) -> io::Result<()>
 }
 
 /// Writes a text to standard output whole, or says on standard error that it could not.
+// `write_all` does not say on standard error that it failed.
 pub fn write_output(rt: &(impl Print + Eprint), text: &[u8]) -> io::Result<()> {
     let written = write_to(&mut io::writer(rt), text);
     if written.is_err() {

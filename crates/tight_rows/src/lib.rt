@@ -5,10 +5,9 @@
 ghost use Rattle.std.specs.Prelude.{◌≡◌, true, false, ℕ, ◌-◌, ◌≤◌, ◌<◌, ◌^◌, get_or, length};
 ghost use Rattle.snapshot.specs.Limits.{word_limit, module_limit, area_limit};
 ghost use Rattle.snapshot.specs.Records.{scope_at};
-ghost use Rattle.snapshot.specs.Layouts.{snap_of};
 ghost use Rattle.record_rules.specs.Stands.{counts_in};
-ghost use Rattle.accept.specs.Post.{Reads};
 ghost use Rattle.accept.specs.Valid.{ScopeFits};
+ghost use Rattle.accept.specs.Opened.{snap_in};
 ghost use Rattle.hir_def.specs.Items.{same_item, module_item};
 ghost use Rattle.path_choices.specs.Choices.{via_local, step_by, extended};
 ghost use Rattle.distances.specs.Distances.{distance};
@@ -16,14 +15,14 @@ ghost use Rattle.local_levels.specs.Levels.{item_at, Chain};
 ghost use Rattle.tight_rows.specs.Rows.{last_place, row_of, row_place, row_flag, flagged as flagged_of};
 ghost use Rattle.tight_rows.specs.Post.{Cleared, Farther, Tight};
 
+use accept::opened::Snapshot;
 use distances::Distances;
 use find_path::{Choice, FindPathCtx};
 use local_levels::Stack;
 use local_levels::levels::any_level;
 use path_offers::offers::offer_entry;
 use path_rules::choices::nothing;
-use snapshot::ids::ModuleId;
-use snapshot::layout::Layout;
+use snapshot::ids::{Area, ModuleId};
 use snapshot::words::word;
 
 /// Where the rows stand, a word a module.
@@ -35,8 +34,8 @@ impl Rows {
 
 /// Nothing is known of the first `count` modules.
 // One row a module that there is, in an area with other tables on both sides: the count is not the slice's length.
-pub fn clear_rows(area: &mut [u32], count: usize)
-    requires { (length area.old ≡ area_limit) × (count ≤ module_limit) }
+pub fn clear_rows(area: &mut Area, count: usize)
+    requires { count ≤ module_limit }
     ensures { Cleared area.old count area.new }
 {
     area[Rows::AT..Rows::AT + count].fill(0);
@@ -111,20 +110,13 @@ pub fn row_place(row: usize) -> usize
 }
 
 /// The choice that a row stands for, from that for the module of its entry.
-pub fn from_row(
-    words: &[u32],
-    area: &[u32],
-    l: Layout,
-    x: FindPathCtx,
-    c: Choice,
-    row: usize,
-) -> Choice
-    requires { Reads words.now area.now l × (2 ≤ row) × ScopeFits (counts_in l) (scope_at words.now (row_place row))
-        × (c.found ≡ true) × (c.count < 16) × (c.path_text_len < 2 ^ 32) × (c.steps < 17) }
-    ensures { result ≡ extended (snap_of words.now area.now l) c (scope_at words.now (row_place row)).name
+// No `From`: a row becomes a choice by the snapshot and the context only.
+pub fn from_row(db: &Snapshot, x: FindPathCtx, c: Choice, row: usize) -> Choice
+    requires { (2 ≤ row) × ScopeFits (counts_in db.now.records.layout) (scope_at db.now.records.words.now (row_place row)) × (c.found ≡ true) × (c.count < 16) × (c.path_text_len < 2 ^ 32) × (c.steps < 17) }
+    ensures { result ≡ extended (snap_in db.now) c (scope_at db.now.records.words.now (row_place row)).name
         (step_by via_local (row_place row)) (row_flag row) }
 {
     let h = row_place(row);
-    let d = offer_entry(words, area, l, x, nothing(), c, h);
+    let d = offer_entry(db, x, nothing(), c, h);
     flagged(d, row % 2 == 1)
 }

@@ -2,9 +2,10 @@
 use Prim.Native.Nat.{ℕ, zero, suc, ◌+◌, ◌-◌, ◌≤◌, ◌<◌}
 use mathlib.Core.Path.{◌≡◌, refl, sym, ap, ap₂, ◌∙◌}
 use mathlib.Core.List.{List, [], ◌∷◌, ◌++◌, append_assoc}
-use mathlib.Core.Bool.{true}
 use native.Mathlib.Omega.{arith}
 use lib.ListN.{length, drop, set, length-set, replicate, length-replicate}
+use Rattle.snapshot.specs.declared.ids.PathKind.{PathKind}
+use Rattle.snapshot.specs.declared.ids.PathKind.TheVariants.{Plain, SelfModule, Super, Crate, Absolute}
 use Rattle.nameable.specs.Paths.{Path, keyword, absolute, plain, into, names_in, names_of}
 use Rattle.nameable.specs.Breadth.{names_limit}
 use Rattle.any_path.specs.Rows.{link_at, name_at, keyword_from, path_from, path_at}
@@ -62,15 +63,15 @@ names_low f (suc (suc (suc j))) x z h = absurd (omega arith)
 
 -- keywords by their numbers
 
-pub kind_crate : (n : ℕ) → n ≡ 0 → 3 ≡ keyword_kind (keyword_from n)
+pub kind_crate : (n : ℕ) → n ≡ 0 → Crate ≡ keyword_kind (keyword_from n)
 unfolding keyword_kind keyword_from
 kind_crate n e = rw e
 
-pub kind_self : (n : ℕ) → n ≡ 1 → 1 ≡ keyword_kind (keyword_from n)
+pub kind_self : (n : ℕ) → n ≡ 1 → SelfModule ≡ keyword_kind (keyword_from n)
 unfolding keyword_kind keyword_from
 kind_self n e = rw e
 
-pub kind_super : (n : ℕ) → (n ≡ 0 → ⊥) → (n ≡ 1 → ⊥) → 2 ≡ keyword_kind (keyword_from n)
+pub kind_super : (n : ℕ) → (n ≡ 0 → ⊥) → (n ≡ 1 → ⊥) → Super ≡ keyword_kind (keyword_from n)
 unfolding keyword_kind keyword_from
 kind_super zero a b = absurd (a refl)
 kind_super (suc zero) a b = absurd (b refl)
@@ -180,30 +181,30 @@ module _ (A : List ℕ) (n : ℕ) (linked : (i : ℕ) → i < n → link_at A i 
         }
 
     module _ {count : ℕ} (few : count ≤ names_limit) (ec : count ≡ names_in (path_from (path_at A) link name)) where
-      told : {d u : ℕ} {M : List ℕ} → M ≡ names_on (path_from (path_at A) k x) N → d ≡ kind_of (path_from (path_at A) k x)
+      told : {d : PathKind} {u : ℕ} {M : List ℕ} → M ≡ names_on (path_from (path_at A) k x) N → d ≡ kind_of (path_from (path_at A) k x)
           → u ≡ supers_of (path_from (path_at A) k x)
-          → record { found = true; kind = d; supers = u; names = M; count = count } ≡ tell (path_from (path_at A) link name)
+          → record { kind = d; supers = u; names = M; count = count } ≡ tell (path_from (path_at A) link name)
       told em ed eu =
           let p : Path = path_from (path_at A) link name in
           tell_made p (omega (arith, few, ec)) (ed ∙ sym inv.kind) (eu ∙ sym inv.supers)
           (em ∙ (sym inv.names ∙ names_padded p (omega (arith, few, ec)))) ec
 
-      pub unwound_keyword : {d u : ℕ} → k ≡ 0 → d ≡ keyword_kind (keyword_from x) → u ≡ keyword_supers (keyword_from x)
-          → record { found = true; kind = d; supers = u; names = N; count = count } ≡ tell (path_from (path_at A) link name)
+      pub unwound_keyword : {d : PathKind} {u : ℕ} → k ≡ 0 → d ≡ keyword_kind (keyword_from x) → u ≡ keyword_supers (keyword_from x)
+          → record { kind = d; supers = u; names = N; count = count } ≡ tell (path_from (path_at A) link name)
       unfolding names_on kind_of supers_of path_from
       unwound_keyword z ed eu =
           let q : path_from (path_at A) k x ≡ keyword (keyword_from x) = ap (λ (j : ℕ). path_from (path_at A) j x) z in
           told (sym (ap (λ (p : Path). names_on p N) q)) (ed ∙ sym (ap kind_of q)) (eu ∙ sym (ap supers_of q))
 
-      pub unwound_absolute : {d : ℕ} {M : List ℕ} → k ≡ 1 → d ≡ 4 → M ≡ set N 0 x
-          → record { found = true; kind = d; supers = 0; names = M; count = count } ≡ tell (path_from (path_at A) link name)
+      pub unwound_absolute : {d : PathKind} {M : List ℕ} → k ≡ 1 → d ≡ Absolute → M ≡ set N 0 x
+          → record { kind = d; supers = 0; names = M; count = count } ≡ tell (path_from (path_at A) link name)
       unfolding names_on kind_of supers_of path_from
       unwound_absolute z ed em =
           let q : path_from (path_at A) k x ≡ absolute x = ap (λ (j : ℕ). path_from (path_at A) j x) z in
           told (em ∙ sym (ap (λ (p : Path). names_on p N) q)) (ed ∙ sym (ap kind_of q)) (sym (ap supers_of q))
 
-      pub unwound_plain : {d : ℕ} {M : List ℕ} → (k ≡ 0 → ⊥) → (k ≡ 1 → ⊥) → k ≤ 2 → d ≡ 0 → M ≡ set N 0 x
-          → record { found = true; kind = d; supers = 0; names = M; count = count } ≡ tell (path_from (path_at A) link name)
+      pub unwound_plain : {d : PathKind} {M : List ℕ} → (k ≡ 0 → ⊥) → (k ≡ 1 → ⊥) → k ≤ 2 → d ≡ Plain → M ≡ set N 0 x
+          → record { kind = d; supers = 0; names = M; count = count } ≡ tell (path_from (path_at A) link name)
       unfolding names_on kind_of supers_of path_from
       unwound_plain a b h ed em =
           let z : k ≡ 2 = omega (arith, a, b, h) in

@@ -1,14 +1,15 @@
 //! Paths read out of the rows, one more name, and the shorter of two.
 //! The area is longer than the n rows of the run, and the clauses bound each link by n: so both are passed.
 ghost use Rattle.std.specs.Prelude.{◌≡◌, ℕ, ◌+◌, ◌^◌, ◌≤◌, ◌<◌};
-ghost use Rattle.std.specs.Prelude.{Option};
+ghost use Rattle.std.specs.Prelude.{Option, IfSome, option_map};
 ghost use Rattle.snapshot.specs.Limits.{module_limit};
 ghost use Rattle.snapshot.specs.Records.{Snapshot};
 ghost use Rattle.nameable.specs.Paths.{Path, into, names_in};
 ghost use Rattle.nameable.specs.Breadth.{names_limit, shorter as shorter_of};
 ghost use Rattle.any_path.specs.Rows.{keyword_from, path_from, path_at, link_at};
 ghost use Rattle.arrivals.specs.Steps.{LeadsTo};
-ghost use Rattle.told_paths.specs.Tells.{step_link, keyword_kind, keyword_supers, told_none, told_long, tell as tell_of, told_by};
+ghost use Rattle.told_paths.specs.Tells.{step_link, keyword_kind, keyword_supers, told_long, tell as tell_of};
+ghost use Rattle.told_paths.specs.declared.ToldPath.{ToldPath};
 
 use crate::ToldPath;
 use any_path::rows::Row;
@@ -24,28 +25,13 @@ impl NameCount {
     pub const LIMIT: usize = 16;
 }
 
-/// No path.
-pub fn nothing() -> ToldPath
-    ensures { result ≡ told_none }
-{
-    let names = [0usize; 16];
-    ToldPath {
-        found: false,
-        kind: 0,
-        supers: 0,
-        names: names,
-        count: 0,
-    }
-}
-
 // A path with too many names.
 fn long(count: usize) -> ToldPath
     ensures { result ≡ told_long count }
 {
     let names = [0usize; 16];
     ToldPath {
-        found: true,
-        kind: 0,
+        kind: PathKind::Plain,
         supers: 0,
         names: names,
         count: count,
@@ -53,16 +39,16 @@ fn long(count: usize) -> ToldPath
 }
 
 // The kind of a keyword: 0 `crate`, else so many `super` and one more.
-fn keyword_kind(n: usize) -> usize
+fn keyword_kind(n: usize) -> PathKind
     ensures { result ≡ keyword_kind (keyword_from n) }
 {
     if n == 0 {
-        return PathKind::Crate as usize;
+        return PathKind::Crate;
     }
     if n == 1 {
-        return PathKind::SelfModule as usize;
+        return PathKind::SelfModule;
     }
-    PathKind::Super as usize
+    PathKind::Super
 }
 
 fn keyword_supers(n: usize) -> usize
@@ -72,6 +58,7 @@ fn keyword_supers(n: usize) -> usize
 }
 
 // How many names a path has whose last step has that link, after n rows.
+// `while`: it follows links, so the next one is read; so in `read`.
 fn names_in(area: &[u32], n: usize, link: usize) -> usize
     requires { (n ≤ module_limit) × (link < n + 3) × ((i : ℕ) → i < n → link_at area.now i < i + 3) }
     ensures by_index { (x : ℕ) → result ≡ names_in (path_from (path_at area.now) link x) }
@@ -90,6 +77,7 @@ fn names_in(area: &[u32], n: usize, link: usize) -> usize
 }
 
 // The path with that last step, which has so many names.
+// `while`, as in `names_in`.
 fn read(area: &[u32], n: usize, link: usize, name: usize, count: usize) -> ToldPath
     requires { (n ≤ module_limit) × (link < n + 3) × ((i : ℕ) → i < n → link_at area.now i < i + 3) × (count ≤ names_limit)
         × (count ≡ names_in (path_from (path_at area.now) link name)) }
@@ -109,7 +97,6 @@ fn read(area: &[u32], n: usize, link: usize, name: usize, count: usize) -> ToldP
     }
     if k == 0 {
         return ToldPath {
-            found: true,
             kind: keyword_kind(x),
             supers: keyword_supers(x),
             names: names,
@@ -119,16 +106,14 @@ fn read(area: &[u32], n: usize, link: usize, name: usize, count: usize) -> ToldP
     names[0] = x;
     if k == 1 {
         return ToldPath {
-            found: true,
-            kind: PathKind::Absolute as usize,
+            kind: PathKind::Absolute,
             supers: 0,
             names: names,
             count: count,
         };
     }
     ToldPath {
-        found: true,
-        kind: PathKind::Plain as usize,
+        kind: PathKind::Plain,
         supers: 0,
         names: names,
         count: count,
@@ -136,19 +121,17 @@ fn read(area: &[u32], n: usize, link: usize, name: usize, count: usize) -> ToldP
 }
 
 /// The path to which a step after n rows leads.
-pub fn tell(area: &[u32], n: usize, step: Option<LastStep>) -> ToldPath
+pub fn tell(area: &[u32], n: usize, step: Option<LastStep>) -> Option<ToldPath>
     requires { (n ≤ module_limit) × (step_link step < n + 3) × ((i : ℕ) → i < n → link_at area.now i < i + 3) }
-    ensures value { (s : Snapshot) (from ns : ℕ) (o : Option Path) → LeadsTo s from ns area.now n o step → result ≡ told_by o }
-    ensures count_bound { result.count < 2 ^ 32 }
+    ensures value { (s : Snapshot) (from ns : ℕ) (o : Option Path) → LeadsTo s from ns area.now n o step → result ≡ option_map tell_of o }
+    ensures count_bound { IfSome result (λ (t : ToldPath). t.count < 2 ^ 32) }
 {
-    let Some(last) = step else {
-        return nothing();
-    };
+    let last = step?;
     let count = names_in(area, n, last.link);
     if NameCount::LIMIT < count {
-        return long(count);
+        return Some(long(count));
     }
-    read(area, n, last.link, last.name, count)
+    Some(read(area, n, last.link, last.name, count))
 }
 
 /// One name more.
@@ -163,7 +146,6 @@ pub fn more(t: ToldPath, name: usize) -> ToldPath
     let mut names = t.names;
     names[at] = name;
     ToldPath {
-        found: true,
         kind: t.kind,
         supers: t.supers,
         names: names,
@@ -172,16 +154,16 @@ pub fn more(t: ToldPath, name: usize) -> ToldPath
 }
 
 /// The second where it is shorter.
-pub fn shorter(a: ToldPath, b: ToldPath) -> ToldPath
-    ensures { (p q : Option Path) → a ≡ told_by p → b ≡ told_by q → result ≡ told_by (shorter_of p q) }
+pub fn shorter(a: Option<ToldPath>, b: Option<ToldPath>) -> Option<ToldPath>
+    ensures { (p q : Option Path) → a ≡ option_map tell_of p → b ≡ option_map tell_of q → result ≡ option_map tell_of (shorter_of p q) }
 {
-    if !a.found {
+    let Some(first) = a else {
         return b;
-    }
-    if !b.found {
+    };
+    let Some(second) = b else {
         return a;
-    }
-    if b.count < a.count {
+    };
+    if second.count < first.count {
         return b;
     }
     a

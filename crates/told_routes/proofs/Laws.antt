@@ -1,9 +1,11 @@
 -- Each case of a name.
 use Prim.Native.Nat.{ℕ, suc, ◌-◌, ◌≤◌, ◌<◌}
-use mathlib.Core.Path.{◌≡◌, refl, sym, ap, subst, ◌∙◌}
+use mathlib.Core.Path.{◌≡◌, refl, sym, ap, ap₂, ◌∙◌}
 use mathlib.Core.List.{List}
+use mathlib.Core.Logic.{◌⊎◌, inl, inr}
 use mathlib.Core.Bool.{true, false, ◌&&◌}
 use Rattle.std.specs.Prelude.{Option, None, Some, option_map}
+use Rattle.std.specs.Option.{option_map_or}
 use native.Mathlib.Omega.{arith}
 use borrow.Author.Tests.{eq-eqb, ne_eqb, eqb-true, le-ltb}
 use lib.Dec.{eqb}
@@ -11,6 +13,8 @@ use Rattle.snapshot.specs.Records.{Snapshot, Definition, Scope, Extern, Member, 
 use Rattle.snapshot.specs.Layouts.{snap_of}
 use Rattle.snapshot.specs.declared.ids.DefinitionId.{DefinitionId}
 use Rattle.snapshot.specs.declared.ids.ModuleId.{ModuleId}
+use Rattle.snapshot.specs.declared.ids.PathKind.{PathKind}
+use Rattle.snapshot.specs.declared.ids.PathKind.TheVariants.{Plain, SelfModule, Super, Crate, Absolute}
 use Rattle.snapshot.specs.declared.layout.Layout.{Layout}
 use Rattle.accept.specs.Post.{Reads}
 use Rattle.accept.specs.Valid.{Valid}
@@ -25,9 +29,8 @@ use Rattle.hir_def.specs.Finds.{first_of}
 use Rattle.hir_def.specs.Items.{types, macros, definition_of, crate_data, item_of, module_item, defined_item}
 use Rattle.hir_def.specs.declared.Item.{Item}
 use Rattle.hir_def.specs.declared.Item.TheVariants.{Mod, Def}
-use Rattle.nameable.specs.Paths.{Keyword, supers, crate, Path, keyword, absolute, plain, into, Named, named, as_named, entries_in, variant_named}
-use Rattle.nameable.specs.Paths.{place_in}
-use Rattle.nameable.specs.Paths.{variants_in, extern_named, absolutes, within, above_or, above, keyword_module, module_named, after, reads, item_in}
+use Rattle.nameable.specs.Paths.{Keyword, supers, crate, Path, keyword, absolute, into, Named, named, as_named, entries_in, variant_named}
+use Rattle.nameable.specs.Paths.{variants_in, extern_named, absolutes, within, above_or, above, keyword_module, module_named, after, reads, item_in, place_in}
 use Rattle.nameable.specs.Queue.{seen_named}
 use Rattle.nameable.proofs.Lists.{none_some, first_found_lem}
 use Rattle.nameable.proofs.Reached.{each_in, item_in_lem}
@@ -37,22 +40,37 @@ use Rattle.any_path.specs.Plain.{externs_named}
 use Rattle.any_path.proofs.Plains.{entry_item, externs_read, externs_types, externs_others}
 use Rattle.shortest_paths.proofs.Laws.{variant_first}
 use Rattle.told_routes.specs.declared.Meaning.{Meaning}
-use Rattle.told_routes.specs.Routes.{keyword_by, first_path, next_path, Answers}
+use Rattle.told_routes.specs.Routes.{keyword_by, first_path, next_path, meaning_of, Answers}
 
-pub answers_as : {o q : Option Named} {x : Meaning} → o ≡ q → Answers o x → Answers q x
-answers_as {x = x} e a = subst (λ (z : Option Named). Answers z x) e a
+pub answers_as : {o q : Option Named} {x : Option Meaning} → o ≡ q → Answers o x → Answers q x
+answers_as e a = a ∙ ap (option_map meaning_of) e
+
+-- The item and the place of what is answered.
+
+item_by : (o : Option Named) → option_map (λ (z : Meaning). z.item) (option_map meaning_of o) ≡ item_in o
+unfolding item_in
+item_by None = refl
+item_by (Some x) = refl
+
+place_by : (o : Option Named) → option_map_or (λ (z : Meaning). z.place) (option_map meaning_of o) 0 ≡ place_in o
+unfolding place_in
+place_by None = refl
+place_by (Some x) = refl
+
+pub item_answered : (o : Option Named) {x : Option Meaning} → Answers o x → option_map (λ (z : Meaning). z.item) x ≡ item_in o
+item_answered o a = ap (option_map (λ (z : Meaning). z.item)) a ∙ item_by o
+
+pub place_answered : (o : Option Named) {x : Option Meaning} → Answers o x → option_map_or (λ (z : Meaning). z.place) x 0 ≡ place_in o
+place_answered o a = ap (λ (z : Option Meaning). option_map_or (λ (t : Meaning). t.place) z 0) a ∙ place_by o
 
 -- By an entry, and by an extern.
 
 pub answers_entry : (s : Snapshot) (e : Scope) {i : Item} {ns d : ℕ} → i ≡ item_of s ns d → ns ≡ e.ns → d ≡ e.definition
-    → Answers (Some (as_named s e)) (record { item = Some i; place = e.place })
-unfolding item_in place_in
-answers_entry s e ei en ed = record { item = ap Some (entry_item s e ei en ed); place = refl }
+    → record { item = i; place = e.place } ≡ meaning_of (as_named s e)
+answers_entry s e ei en ed = ap (λ (z : Item). record { item = z; place = e.place }) (entry_item s e ei en ed)
 
-pub answers_extern : (x : Extern) (m : ModuleId) → m.0 ≡ x.target → Answers (Some (extern_named x))
-    (record { item = Some (Mod m); place = x.place })
-unfolding item_in place_in
-answers_extern x m e = record { item = ap (λ (t : ℕ). Some (module_item t)) e; place = refl }
+pub answers_extern : (x : Extern) (m : ModuleId) → m.0 ≡ x.target → record { item = Mod m; place = x.place } ≡ meaning_of (extern_named x)
+answers_extern x m e = ap (λ (t : ℕ). record { item = module_item t; place = x.place }) e
 
 -- A name after `::`.
 module _ (s : Snapshot) (from ns n : ℕ) {c : ℕ} (k : c ≡ crate_of s from) {y : ℕ} (edition : y ≡ (crate_data s c).edition) where
@@ -107,8 +125,7 @@ module _ (W A : List ℕ) (l : Layout) (r : Reads W A l) (ns d n : ℕ) where
 
     pub variant_answers : {x : Member} (y : DefinitionId) {h : ℕ} → Some x ≡ first_variant (snap_of W A l) d n → y.0 ≡ x.definition
         → ReadsAs W h (definition_of (snap_of W A l) y.0)
-        → Answers (named n (variants_in (snap_of W A l) ns d)) (record { item = Some (Def (record { 0 = ns }) y); place = h })
-    unfolding item_in place_in
+        → Answers (named n (variants_in (snap_of W A l) ns d)) (Some (record { item = Def (record { 0 = ns }) y; place = h }))
     variant_answers {x} y {h} e ey a =
         let s : Snapshot = snap_of W A l in
         let kind : (definition_of s y.0).kind ≡ 2 = ap (λ (j : ℕ). (definition_of s j).kind) ey ∙ variant_kind_lem x e in
@@ -116,13 +133,11 @@ module _ (W A : List ℕ) (l : Layout) (r : Reads W A l) (ns d n : ℕ) where
         let there : Some (variant_named s ns x) ≡ named n (variants_in s ns d) =
         ap (option_map (variant_named s ns)) e ∙ sym (variant_first s ns d d n low) in
         answers_as there
-        (record {
-          item = ap (λ (j : ℕ). Some (defined_item ns j)) ey;
-          place = ap (λ (z : Definition). z.place) whole ∙ ap (λ (j : ℕ). (definition_of s j).place) ey;
-        })
+        (ap₂ (λ (j k : ℕ). Some (record { item = defined_item ns j; place = k })) ey
+        (ap (λ (z : Definition). z.place) whole ∙ ap (λ (j : ℕ). (definition_of s j).place) ey))
 
 -- A name after an item.
-module _ (s : Snapshot) (from ns n : ℕ) {i : Item} {x : Meaning} where
+module _ (s : Snapshot) (from ns n : ℕ) {i : Item} {x : Option Meaning} where
   pub within_module : (m : ModuleId) → i ≡ Mod m → Answers (named n (entries_in s from ns m.0)) x → Answers (named n (within s from ns i)) x
   unfolding within
   within_module m e a = answers_as (ap (λ (z : Item). named n (within s from ns z)) (sym e)) a
@@ -143,7 +158,7 @@ module _ (f : Item → Option Named) {here : Option Item} where
   after_thing {x} e o h = let y = item_in_lem o x (sym h ∙ e) in rw y.1 (ap f (sym y.2))
 
 -- The next name of a path, by its kind.
-module _ (kind k : ℕ) (p : Path) (n : ℕ) where
+module _ (kind : PathKind) (k : ℕ) (p : Path) (n : ℕ) where
   later_by : (j : ℕ) → k ≡ suc j → into p n ≡ next_path kind k p n
   unfolding next_path
   later_by j e = sym (ap (λ (i : ℕ). next_path kind i p n) e)
@@ -156,18 +171,14 @@ module _ (kind k : ℕ) (p : Path) (n : ℕ) where
     unfolding next_path
     is_first = sym (ap (λ (i : ℕ). next_path kind i p n) z)
 
-    pub next_plain : kind ≡ 0 → plain n ≡ next_path kind k p n
+    pub next_first : {c : PathKind} → kind ≡ c → first_path c p n ≡ next_path kind k p n
+    next_first e = sym (ap (λ (c : PathKind). first_path c p n) e) ∙ is_first
+
+    pub next_keyword : (kind ≡ SelfModule) ⊎ ((kind ≡ Super) ⊎ (kind ≡ Crate)) → into p n ≡ next_path kind k p n
     unfolding first_path
-    next_plain e = sym (rw (first_path, eq-eqb kind 0 e)) ∙ is_first
-
-    module _ (named : kind ≡ 0 → ⊥) where
-      pub next_absolute : kind ≡ 4 → absolute n ≡ next_path kind k p n
-      unfolding first_path
-      next_absolute e = sym (rw (first_path, ne_eqb kind 0 named, eq-eqb kind 4 e)) ∙ is_first
-
-      pub next_keyword : (kind ≡ 4 → ⊥) → into p n ≡ next_path kind k p n
-      unfolding first_path
-      next_keyword e = sym (rw (first_path, ne_eqb kind 0 named, ne_eqb kind 4 e)) ∙ is_first
+    next_keyword (inl e) = next_first e
+    next_keyword (inr (inl e)) = next_first e
+    next_keyword (inr (inr e)) = next_first e
 
 -- Keywords.
 
@@ -201,19 +212,25 @@ module _ (s : Snapshot) where
   unfolding above_or
   above_on m k p h e = ap (λ (o : Option ℕ). item_in (module_named o)) (above_by m k (k - 1) (omega (arith, h)) ∙ ap (above_or s (above s (k - 1))) e)
 
-  module _ (from kind u : ℕ) where
+  module _ (from : ℕ) (kind : PathKind) (u : ℕ) where
     abbrev start_means : Keyword → Option Item
     start_means w = item_in (reads s from types (keyword w))
 
-    pub start_crate : (m : ModuleId) → kind ≡ 3 → m.0 ≡ crate_root s from → Some (Mod m) ≡ item_in (reads s from types (keyword (keyword_by kind u)))
+    pub start_crate : (m : ModuleId) → kind ≡ Crate → m.0 ≡ crate_root s from → Some (Mod m) ≡ item_in (reads s from types (keyword (keyword_by kind u)))
     unfolding reads keyword_module module_named item_in keyword_by
     start_crate m e em =
-        let same : keyword_by kind u ≡ crate = rw (keyword_by, eq-eqb kind 3 e) in
+        let same : keyword_by kind u ≡ crate = ap (λ (c : PathKind). keyword_by c u) e in
         ap (λ (t : ℕ). Some (module_item t)) em ∙ sym (ap start_means same)
 
-    pub start_above : {o : Option Item} {m : ℕ} → (kind ≡ 3 → ⊥) → m ≡ module_around s from → o ≡ above_means u m
+    other_kind : (kind ≡ Plain) ⊎ ((kind ≡ SelfModule) ⊎ ((kind ≡ Super) ⊎ (kind ≡ Absolute))) → keyword_by kind u ≡ supers u
+    unfolding keyword_by
+    other_kind (inl e) = ap (λ (c : PathKind). keyword_by c u) e
+    other_kind (inr (inl e)) = ap (λ (c : PathKind). keyword_by c u) e
+    other_kind (inr (inr (inl e))) = ap (λ (c : PathKind). keyword_by c u) e
+    other_kind (inr (inr (inr e))) = ap (λ (c : PathKind). keyword_by c u) e
+
+    pub start_above : {o : Option Item} {m : ℕ} → (kind ≡ Plain) ⊎ ((kind ≡ SelfModule) ⊎ ((kind ≡ Super) ⊎ (kind ≡ Absolute))) → m ≡ module_around s from → o ≡ above_means u m
         → o ≡ item_in (reads s from types (keyword (keyword_by kind u)))
     unfolding reads keyword_module keyword_by
     start_above e em eo =
-        let same : keyword_by kind u ≡ supers u = rw (keyword_by, ne_eqb kind 3 e) in
-        eo ∙ ap (above_means u) em ∙ sym (ap start_means same)
+        eo ∙ ap (above_means u) em ∙ sym (ap start_means (other_kind e))

@@ -2,22 +2,21 @@
 use Rattle.hir_def.specs.declared.Item.{Item}
 use Rattle.std.specs.Prelude.{Option}
 use Prim.Native.Nat.{ℕ, zero, suc, ◌+◌, ◌≤◌, ◌<◌}
-use mathlib.Core.Path.{◌≡◌, refl, sym, ap, ap₂, subst, ◌∙◌}
+use mathlib.Core.Path.{◌≡◌, refl, sym, ap, ap₂, ◌∙◌}
 use mathlib.Core.List.{List, [], ◌∷◌, ◌++◌}
 use native.Mathlib.Omega.{arith}
 use borrow.Author.Tests.{eq-eqb, ne_eqb}
-use lib.Dec.{eqb}
 use lib.ListN.{length, length-append, get_or, set, replicate}
 use Rattle.snapshot.specs.Records.{Snapshot}
-use Rattle.accept.proofs.Accepted.{by_test}
+use Rattle.snapshot.specs.declared.ids.PathKind.{PathKind}
+use Rattle.snapshot.specs.declared.ids.PathKind.TheVariants.{Plain, SelfModule, Super, Crate, Absolute}
 use Rattle.hir_def.specs.Items.{types}
 use Rattle.nameable.specs.Paths.{Keyword, supers, crate, Path, keyword, absolute, plain, into, names_in, names_of, reads, item_in, place_in, route_of}
 use Rattle.nameable.specs.Breadth.{names_limit}
 use Rattle.told_paths.specs.declared.ToldPath.{ToldPath}
 use Rattle.told_paths.specs.Tells.{keyword_kind, kind_of, keyword_supers, supers_of, padded, tell}
 use Rattle.told_paths.proofs.Laws.{length_names, wholly, tell_few, pad_more}
-use Rattle.told_routes.specs.declared.Meaning.{Meaning}
-use Rattle.told_routes.specs.Routes.{keyword_by, first_path, next_path, path_by, ns_of_first, Answers}
+use Rattle.told_routes.specs.Routes.{keyword_by, first_path, next_path, path_by, ns_of_first}
 
 -- What is told of a path puts it together again.
 
@@ -70,7 +69,7 @@ told_by_lem p {t} e h =
     ap (λ (u : ToldPath). path_by u.kind u.supers u.names u.count) whole
     ∙ path_by_lem p (padded (names_of p)) (λ i l. get_or_left (names_of p) _ i l)
 
-module _ (s : Snapshot) (from kind u : ℕ) (N : List ℕ) where
+module _ (s : Snapshot) (from : ℕ) (kind : PathKind) (u : ℕ) (N : List ℕ) where
   abbrev up_to : ℕ → Path
   up_to k = path_by kind u N k
 
@@ -78,19 +77,17 @@ module _ (s : Snapshot) (from kind u : ℕ) (N : List ℕ) where
   abbrev More : ℕ → Path → Path → Type 0
   More ns p q = route_of s from ns q ≡ route_of s from types p ++ (place_in (reads s from ns q) ∷ [])
 
-  first_more : (ns : ℕ) (w : Keyword) (n : ℕ) → More ns (keyword w) (first_path kind (keyword w) n)
+  first_more : (c : PathKind) (ns : ℕ) (w : Keyword) (n : ℕ) → More ns (keyword w) (first_path c (keyword w) n)
   unfolding route_of first_path
-  first_more ns w n =
-      by_test (eqb kind 0)
-      (λ t. subst (More ns (keyword w)) (let e : first_path kind (keyword w) n ≡ plain n = rw (first_path, t) in sym e) refl)
-      (λ t.
-      by_test (eqb kind 4)
-      (λ v. subst (More ns (keyword w)) (let e : first_path kind (keyword w) n ≡ absolute n = rw (first_path, t, v) in sym e) refl)
-      (λ v. subst (More ns (keyword w)) (let e : first_path kind (keyword w) n ≡ into (keyword w) n = rw (first_path, t, v) in sym e) refl))
+  first_more Plain ns w n = refl
+  first_more Absolute ns w n = refl
+  first_more SelfModule ns w n = refl
+  first_more Super ns w n = refl
+  first_more Crate ns w n = refl
 
   route_more : (ns k : ℕ) → More ns (up_to k) (up_to (suc k))
   unfolding path_by next_path route_of
-  route_more ns zero = first_more ns (keyword_by kind u) (get_or N 0 0)
+  route_more ns zero = first_more kind ns (keyword_by kind u) (get_or N 0 0)
   route_more ns (suc k) = refl
 
   route_size : (ns k : ℕ) → length (route_of s from ns (up_to k)) ≡ k
@@ -101,12 +98,12 @@ module _ (s : Snapshot) (from kind u : ℕ) (N : List ℕ) where
       ap length (route_more ns k) ∙ omega (arith, more, route_size types k)
 
 -- k names of so many are read: the route, and what is meant
-pub record Walked (s : Snapshot) (from ns kind u : ℕ) (N : List ℕ) (count : ℕ) (here : Option Item) (route : List ℕ) (k : ℕ) : Type 0 where
+pub record Walked (s : Snapshot) (from ns : ℕ) (kind : PathKind) (u : ℕ) (N : List ℕ) (count : ℕ) (here : Option Item) (route : List ℕ) (k : ℕ) : Type 0 where
   pub few : k ≤ count
   pub places : route ≡ padded (route_of s from (ns_of_first ns count k) (path_by kind u N k))
   pub means : here ≡ item_in (reads s from (ns_of_first ns count k) (path_by kind u N k))
 
-module _ (s : Snapshot) (from ns kind u : ℕ) (N : List ℕ) (count : ℕ) where
+module _ (s : Snapshot) (from ns : ℕ) (kind : PathKind) (u : ℕ) (N : List ℕ) (count : ℕ) where
   pub walked_start : {here : Option Item} → here ≡ item_in (reads s from types (keyword (keyword_by kind u)))
       → Walked s from ns kind u N count here (replicate 16 0) 0
   unfolding path_by route_of padded reads
@@ -121,24 +118,25 @@ module _ (s : Snapshot) (from ns kind u : ℕ) (N : List ℕ) (count : ℕ) wher
     pub walked_here : here ≡ item_in (reads s from types (path_by kind u N k))
     walked_here = w.means ∙ ap (λ (j : ℕ). item_in (reads s from j (path_by kind u N k))) (in_types k less)
 
-    pub walked_next : count ≤ names_limit → {x : Meaning} {i : ℕ} → i ≡ ns_of_first ns count (k + 1)
-        → Answers (reads s from i (next_path kind k (path_by kind u N k) (get_or N k 0))) x
-        → Walked s from ns kind u N count x.item (set route k x.place) (k + 1)
+    pub walked_next : count ≤ names_limit → {on : Option Item} {place i : ℕ} → i ≡ ns_of_first ns count (k + 1)
+        → on ≡ item_in (reads s from i (next_path kind k (path_by kind u N k) (get_or N k 0)))
+        → place ≡ place_in (reads s from i (next_path kind k (path_by kind u N k) (get_or N k 0)))
+        → Walked s from ns kind u N count on (set route k place) (k + 1)
     unfolding path_by
-    walked_next limit {x} {i} ei a =
+    walked_next limit {place = place} {i} ei eo ep =
         let j : k + 1 ≡ suc k = omega arith in
         let its : Path = path_by kind u N (suc k) in
         let R : List ℕ = route_of s from types (path_by kind u N k) in
         let size : length R ≡ k = route_size s from kind u N types k in
         let before : route ≡ padded R = w.places ∙ ap (λ (y : ℕ). padded (route_of s from y (path_by kind u N k))) (in_types k less) in
-        let set_there : set route k x.place ≡ padded (R ++ (x.place ∷ [])) =
-        ap₂ (λ (ys : List ℕ) (y : ℕ). set ys y x.place) before (sym size) ∙ pad_more R x.place (omega (arith, size, less, limit)) in
-        let there : R ++ (x.place ∷ []) ≡ route_of s from i its =
-        ap (λ (y : ℕ). R ++ (y ∷ [])) a.place ∙ sym (route_more s from kind u N i k) in
+        let set_there : set route k place ≡ padded (R ++ (place ∷ [])) =
+        ap₂ (λ (ys : List ℕ) (y : ℕ). set ys y place) before (sym size) ∙ pad_more R place (omega (arith, size, less, limit)) in
+        let there : R ++ (place ∷ []) ≡ route_of s from i its =
+        ap (λ (y : ℕ). R ++ (y ∷ [])) ep ∙ sym (route_more s from kind u N i k) in
         record {
           few = omega (arith, less);
           places = set_there ∙ (ap padded there ∙ ap₂ (λ (y z : ℕ). padded (route_of s from y (path_by kind u N z))) ei (sym j));
-          means = a.item ∙ ap₂ (λ (y z : ℕ). item_in (reads s from y (path_by kind u N z))) ei (sym j);
+          means = eo ∙ ap₂ (λ (y z : ℕ). item_in (reads s from y (path_by kind u N z))) ei (sym j);
         }
 
   pub walked_done : {here : Option Item} {route : List ℕ} {k : ℕ} → Walked s from ns kind u N count here route k → count ≤ k

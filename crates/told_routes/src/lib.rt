@@ -7,9 +7,9 @@ mod starts;
 
 use hir_def::Item;
 
-/// What the names read so far mean, and the place of the record by which the last of them is read, 0 for none.
+/// What the names read so far mean, and the place of the record by which the last of them is read.
 #[derive(Clone, Copy)]
 pub struct Meaning {
-    pub item: Option<Item>,
+    pub item: Item,
     pub place: usize,
 }

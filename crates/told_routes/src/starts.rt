@@ -1,44 +1,38 @@
 //! The module that a path's keyword means.
 ghost use Rattle.std.specs.Prelude.{◌≡◌, ◌<◌};
-ghost use Rattle.snapshot.specs.Layouts.{snap_of};
-ghost use Rattle.accept.specs.Post.{Reads};
+ghost use Rattle.accept.specs.Opened.{snap_in};
 ghost use Rattle.hir_def.specs.Items.{types};
 ghost use Rattle.nameable.specs.Paths.{keyword, above as module_above, module_named, reads, item_in};
 ghost use Rattle.told_routes.specs.Routes.{keyword_by};
 
+use accept::opened::Snapshot;
 use hir_def::Item;
 use module_tree::modules::{crate_root, parent};
 use seen_entries::privacy::module_around;
 use snapshot::ids::{ModuleId, PathKind};
-use snapshot::layout::Layout;
 
 // The module so many times above another.
-fn above(words: &[u32], area: &[u32], l: Layout, m: ModuleId, supers: usize) -> Option<Item>
-    requires { Reads words.now area.now l × (m.0 < l.modules) }
-    ensures { result ≡ item_in (module_named (module_above (snap_of words.now area.now l) supers m.0)) }
+fn above(db: &Snapshot, m: ModuleId, supers: usize) -> Option<Item>
+    requires { m.0 < db.now.records.layout.modules }
+    ensures { result ≡ item_in (module_named (module_above (snap_in db.now) supers m.0)) }
 {
     let mut at = m;
     for _step in 0..supers {
-        let p = parent(words, area, l, at)?;
-        at = module_around(words, area, l, p);
+        let p = parent(db, at)?;
+        at = module_around(db, p);
     }
     Some(Item::Mod(at))
 }
 
 /// What a path of that kind means before its first name.
-pub(crate) fn start(
-    words: &[u32],
-    area: &[u32],
-    l: Layout,
-    from: ModuleId,
-    kind: usize,
-    supers: usize,
-) -> Option<Item>
-    requires { Reads words.now area.now l × (from.0 < l.modules) }
-    ensures { result ≡ item_in (reads (snap_of words.now area.now l) from.0 types (keyword (keyword_by kind supers))) }
+pub(crate) fn start(db: &Snapshot, from: ModuleId, kind: PathKind, supers: usize) -> Option<Item>
+    requires { from.0 < db.now.records.layout.modules }
+    ensures { result ≡ item_in (reads (snap_in db.now) from.0 types (keyword (keyword_by kind supers))) }
 {
-    if kind == PathKind::Crate as usize {
-        return Some(Item::Mod(crate_root(words, area, l, from)));
+    match kind {
+        PathKind::Crate => Some(Item::Mod(crate_root(db, from))),
+        PathKind::Plain | PathKind::SelfModule | PathKind::Super | PathKind::Absolute => {
+            above(db, module_around(db, from), supers)
+        }
     }
-    above(words, area, l, module_around(words, area, l, from), supers)
 }

@@ -3,22 +3,21 @@
 
 ghost use Rattle.std.specs.Prelude.{◌≡◌, false, ℕ, ◌+◌, ◌≤◌, ◌<◌, length};
 ghost use Rattle.snapshot.specs.Limits.{module_limit, area_limit};
-ghost use Rattle.snapshot.specs.Layouts.{snap_of};
+ghost use Rattle.snapshot.specs.Laid.{snap_by};
 ghost use Rattle.accept.specs.Post.{Reads};
 ghost use Rattle.find_path.specs.Walk.{visited, find_local_import_locations};
 ghost use Rattle.scope_index.specs.Index.{Indexed};
-ghost use Rattle.local_levels.specs.Levels.{Small, levels_of, Chain};
+ghost use Rattle.local_levels.specs.Levels.{levels_of, Chain};
 ghost use Rattle.local_levels.specs.Post.{Gathered};
 ghost use Rattle.walk_once.specs.Walked.{walk_end, Walked};
 ghost use Rattle.walk_once.specs.Post.{Copied, Kept};
 
-use hir_def::Item;
-use local_levels::Stack;
 use local_levels::levels::{any_level, code_of};
 use local_levels::locations::find_local_import_locations;
+use local_levels::{Sought, Stack};
 use scope_index::Index;
-use snapshot::ids::ModuleId;
-use snapshot::layout::Layout;
+use snapshot::ids::{Area, ModuleId};
+use snapshot::records::Records;
 use snapshot::words::word;
 
 /// Where the walk stands: its modules, and then how many they are.
@@ -33,26 +32,27 @@ impl Walk {
 }
 
 /// Takes the walk past no visited module.
-pub fn take_walk(words: &[u32], area: &mut [u32], l: Layout, from: ModuleId, item: Item)
-    requires { Reads words.now area.old l × (from.0 < l.modules) × (length area.old ≡ area_limit) × Small item
-        × Indexed words.now l 0 area.old }
-    ensures { Kept words.now area.old l from.0 area.new }
+pub fn take_walk(records: &Records, area: &mut Area, from: ModuleId, sought: Sought)
+    requires { Reads records.now.words.now area.old records.now.layout × (from.0 < records.now.layout.modules)
+        × Indexed records.now.words.now records.now.layout 0 area.old }
+    ensures { Kept records.now.words.now area.old records.now.layout from.0 area.new }
 {
     let none = Stack {
         top: Walk::AT,
         place: 0,
         depth: 0,
     };
-    let n = find_local_import_locations(words, area, l, from, none, item);
+    let n = find_local_import_locations(records, area, from, none, sought);
     area[Walk::COUNT] = n as u32;
 }
 
 // Whether a level is a search for the item.
-fn is_on(area: &[u32], s: Stack, item: Item) -> bool
-    requires { Chain area.now s.place s.depth (length area.now) × Small item }
-    ensures { result ≡ false → (m : ℕ) → visited (levels_of area.now s.place s.depth) item m ≡ false }
+// `any_level` with another test than that of `local_levels::visited`: no more is left of either.
+fn is_on(area: &[u32], s: Stack, sought: Sought) -> bool
+    requires { Chain area.now s.place s.depth (length area.now) }
+    ensures { result ≡ false → (m : ℕ) → visited (levels_of area.now s.place s.depth) sought.item m ≡ false }
 {
-    let code = code_of(item);
+    let code = code_of(sought);
     let test = |p| word(area, p - 3) == code;
     any_level(area, s, test)
 }
@@ -68,21 +68,20 @@ fn copy_walk(area: &mut [u32], to: usize, n: usize)
 
 /// The modules that a local search for the item takes, in order, as a run at the top: the walk, unless a level is for the item.
 pub fn locations(
-    words: &[u32],
+    records: &Records,
     area: &mut [u32],
-    l: Layout,
     from: ModuleId,
     s: Stack,
-    item: Item,
+    sought: Sought,
 ) -> usize
-    requires { Reads words.now area.old l × (from.0 < l.modules) × (walk_end ≤ s.top) × (s.top + module_limit ≤ length area.old)
-        × Chain area.old s.place s.depth s.top × Small item × Walked (snap_of words.now area.old l) from.0 area.old
-        × Indexed words.now l 0 area.old }
-    ensures { Gathered area.old s.top (find_local_import_locations (snap_of words.now area.old l)
-        from.0 (visited (levels_of area.old s.place s.depth) item)) area.new result }
+    requires { Reads records.now.words.now area.old records.now.layout × (from.0 < records.now.layout.modules) × (walk_end ≤ s.top) × (s.top + module_limit ≤ length area.old)
+        × Chain area.old s.place s.depth s.top × Walked (snap_by records.now area.old) from.0 area.old
+        × Indexed records.now.words.now records.now.layout 0 area.old }
+    ensures { Gathered area.old s.top (find_local_import_locations (snap_by records.now area.old)
+        from.0 (visited (levels_of area.old s.place s.depth) sought.item)) area.new result }
 {
-    if is_on(area, s, item) {
-        return find_local_import_locations(words, area, l, from, s, item);
+    if is_on(area, s, sought) {
+        return find_local_import_locations(records, area, from, s, sought);
     }
     let n = word(area, Walk::COUNT);
     copy_walk(area, s.top, n);

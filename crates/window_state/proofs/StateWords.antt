@@ -17,7 +17,6 @@ use Rattle.window_state.specs.declared.rows.Row.{Row}
 use Rattle.window_state.specs.declared.rows.Windows.{Windows}
 use Rattle.window_rules.specs.States.{row_of, with_row, waits, asked_by, after_serving}
 use Rattle.window_state.specs.Words.{empty_row, row_words, rows_words, words_of}
-use Rattle.window_state.specs.contracts.rows.Row as R
 use Rattle.window_state.specs.contracts.rows.Windows as T
 use Rattle.window_state.proofs.rows.Windows.TheLaws as T'
 

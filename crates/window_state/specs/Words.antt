@@ -1,7 +1,19 @@
 -- The words that a state of eight windows stands for: those of `States`.
-use Rattle.std.specs.Prelude.{ℕ, List, [], ◌∷◌, ◌++◌}
+use Rattle.std.specs.Prelude.{ℕ, ◌≡◌, List, [], ◌∷◌, ◌++◌, Option, None, Some, Result, Ok, Err}
+use Rattle.snapshot.specs.declared.refusal.Refusal.{Refusal}
+use Rattle.window_state.specs.declared.window.Window.{Window}
 use Rattle.window_state.specs.declared.rows.Row.{Row}
 use Rattle.window_state.specs.declared.rows.Windows.{Windows}
+
+-- the number of a window, 8 for none
+abbrev pub number_of : Option Window → ℕ
+number_of None = 8
+number_of (Some w) = w.number
+
+-- the window of the number n, unless it is refused
+abbrev pub OfNumber : ℕ → Result Window Refusal → Type 0
+OfNumber n (Ok w) = w.number ≡ n
+OfNumber n (Err r) = Unit {0}
 
 -- a window with no question
 unfoldable pub empty_row : Row

@@ -3,4 +3,5 @@
 
 pub mod rows;
 pub mod serve;
+pub mod window;
 pub mod words;

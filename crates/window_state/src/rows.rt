@@ -1,15 +1,9 @@
 //! The state: the window from which the next turn counts, and a row for each of eight windows.
-ghost use Rattle.std.specs.Prelude.{◌≡◌, ◌<◌};
+ghost use Rattle.std.specs.Prelude.{◌≡◌};
 ghost use Rattle.window_rules.specs.States.{waits as waits_of, served, with_row};
-ghost use Rattle.window_state.specs.Words.{empty_row, row_words, words_of};
+ghost use Rattle.window_state.specs.Words.{empty_row, row_words, number_of, words_of};
 
-/// A number of windows.
-pub struct WindowCount;
-
-impl WindowCount {
-    /// Windows that share the search.
-    pub const LIMIT: usize = 8;
-}
+use crate::window::{Window, WindowCount};
 
 /// A window: whether its question waits, any word but 0, and the question's words.
 #[derive(Clone, Copy)]
@@ -49,33 +43,32 @@ pub fn empty_row() -> Row
 }
 
 /// Whether the question of a window waits.
-pub fn waits(windows: Windows, window: usize) -> bool
-    requires { window < 8 }
-    ensures { result ≡ waits_of (words_of windows) window }
+pub fn waits(windows: Windows, window: Window) -> bool
+    ensures { result ≡ waits_of (words_of windows) window.number }
 {
-    let row = windows.rows[window];
+    let row = windows.rows[window.number];
     row.waits != 0
 }
 
-/// The first window that waits, counting round from the one that the state names; 8 where none waits.
-pub fn next_waiting(windows: Windows) -> usize
-    ensures { result ≡ served (words_of windows) }
+/// The first window that waits, counting round from the one that the state names.
+pub fn next_waiting(windows: Windows) -> Option<Window>
+    ensures { number_of result ≡ served (words_of windows) }
 {
-    let mut window = (windows.next % 8) as usize;
+    let number = (windows.next % 8) as usize;
+    let mut window = Window { number };
     for _turn in 0..WindowCount::LIMIT {
         if waits(windows, window) {
-            return window;
+            return Some(window);
         }
-        window = (window + 1) % WindowCount::LIMIT;
+        window = window.next();
     }
-    WindowCount::LIMIT
+    None
 }
 
 /// The state with another row for a window.
-pub fn with_row(mut windows: Windows, window: usize, row: Row) -> Windows
-    requires { window < 8 }
-    ensures { words_of result ≡ with_row (words_of windows) window (row_words row) }
+pub fn with_row(mut windows: Windows, window: Window, row: Row) -> Windows
+    ensures { words_of result ≡ with_row (words_of windows) window.number (row_words row) }
 {
-    windows.rows[window] = row;
+    windows.rows[window.number] = row;
     windows
 }

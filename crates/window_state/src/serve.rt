@@ -1,33 +1,33 @@
 //! Questions placed and served, in a state by value.
-ghost use Rattle.std.specs.Prelude.{◌≡◌, ◌<◌};
+ghost use Rattle.std.specs.Prelude.{◌≡◌};
 ghost use Rattle.snapshot.specs.Refusals.{fault_number};
 ghost use Rattle.questions.specs.Questions.{question_of};
 ghost use Rattle.window_rules.specs.States.{place_fault, with_row, waiting, asked_by, after_serving};
-ghost use Rattle.window_state.specs.Words.{words_of};
+ghost use Rattle.window_state.specs.Words.{OfNumber, words_of};
 
-use crate::rows::{Row, WindowCount, Windows, empty_row, waits, with_row};
+use crate::rows::{Row, Windows, empty_row, waits, with_row};
+use crate::window::Window;
 use find_path::{Query, Question};
 use snapshot::ids::{DefinitionId, ModuleId};
 use snapshot::kind::Size;
 use snapshot::refusal::Refusal;
 
-/// Why a question of a window is refused.
-pub fn place_fault(windows: Windows, window: usize) -> Result<(), Refusal>
-    ensures { fault_number result ≡ place_fault (words_of windows) window }
+/// The window of a number, or why its question is refused.
+pub fn free_window(windows: Windows, number: usize) -> Result<Window, Refusal>
+    ensures { (fault_number result ≡ place_fault (words_of windows) number) × OfNumber number result }
 {
-    if WindowCount::LIMIT <= window {
+    let Some(window) = Window::of(number) else {
         return Err(Refusal::Window);
-    }
+    };
     if waits(windows, window) {
         return Err(Refusal::Waits);
     }
-    Ok(())
+    Ok(window)
 }
 
 /// The state in which a question of a window waits.
-pub fn with_question(windows: Windows, window: usize, question: &[u32; Size::QUESTION]) -> Windows
-    requires { window < 8 }
-    ensures { words_of result ≡ with_row (words_of windows) window (waiting (question_of question.now)) }
+pub fn with_question(windows: Windows, window: Window, question: &[u32; Size::QUESTION]) -> Windows
+    ensures { words_of result ≡ with_row (words_of windows) window.number (waiting (question_of question.now)) }
 {
     let row = Row {
         waits: 1,
@@ -43,11 +43,10 @@ pub fn with_question(windows: Windows, window: usize, question: &[u32; Size::QUE
 }
 
 /// The question of a window.
-pub fn asked_by(windows: Windows, window: usize) -> Question
-    requires { window < 8 }
-    ensures { result ≡ asked_by (words_of windows) window }
+pub fn asked_by(windows: Windows, window: Window) -> Question
+    ensures { result ≡ asked_by (words_of windows) window.number }
 {
-    let row = windows.rows[window];
+    let row = windows.rows[window.number];
     let query = Query {
         ns: row.ns as usize,
         definition: DefinitionId(row.definition as usize),
@@ -63,12 +62,11 @@ pub fn asked_by(windows: Windows, window: usize) -> Question
 }
 
 /// The state after a window was served: its question waits no more, and the next turn counts from the window after it.
-pub fn after_serving(windows: Windows, window: usize) -> Windows
-    requires { window < 8 }
-    ensures { words_of result ≡ after_serving (words_of windows) window }
+pub fn after_serving(windows: Windows, window: Window) -> Windows
+    ensures { words_of result ≡ after_serving (words_of windows) window.number }
 {
     let row = empty_row();
     let mut served = with_row(windows, window, row);
-    served.next = ((window + 1) % WindowCount::LIMIT) as u32;
+    served.next = window.next().number as u32;
     served
 }

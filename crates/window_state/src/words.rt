@@ -1,9 +1,10 @@
 //! The state as words: the next window, then the rows, eight words each.
-ghost use Rattle.std.specs.Prelude.{◌≡◌, ◌<◌};
+ghost use Rattle.std.specs.Prelude.{◌≡◌};
 ghost use Rattle.window_rules.specs.States.{row_of, with_row};
 ghost use Rattle.window_state.specs.Words.{row_words, words_of};
 
-use crate::rows::{Row, WindowCount, Windows, empty_row};
+use crate::rows::{Row, Windows, empty_row};
+use crate::window::{Window, WindowCount};
 
 /// A number of words.
 pub struct StateWords;
@@ -14,11 +15,10 @@ impl StateWords {
 }
 
 /// The row that the words of a window are.
-pub fn row_of(words: [u32; 65], window: usize) -> Row
-    requires { window < 8 }
-    ensures { row_words result ≡ row_of words window }
+pub fn row_of(words: [u32; 65], window: Window) -> Row
+    ensures { row_words result ≡ row_of words window.number }
 {
-    let at = 1 + StateWords::ROW * window;
+    let at = 1 + StateWords::ROW * window.number;
     Row {
         waits: words[at],
         ns: words[at + 1],
@@ -38,7 +38,8 @@ pub fn windows_of(words: [u32; 65]) -> Windows
     let none = empty_row();
     let mut rows = [none; 8];
     for i in 0..WindowCount::LIMIT {
-        let row = row_of(words, i);
+        let window = Window { number: i };
+        let row = row_of(words, window);
         rows[i] = row;
     }
     let next = words[0];
@@ -46,11 +47,10 @@ pub fn windows_of(words: [u32; 65]) -> Windows
 }
 
 /// The words with other words for a window.
-pub fn with_words(mut words: [u32; 65], window: usize, row: [u32; 8]) -> [u32; 65]
-    requires { window < 8 }
-    ensures { result ≡ with_row words window row }
+pub fn with_words(mut words: [u32; 65], window: Window, row: [u32; 8]) -> [u32; 65]
+    ensures { result ≡ with_row words window.number row }
 {
-    let at = 1 + StateWords::ROW * window;
+    let at = 1 + StateWords::ROW * window.number;
     words[at..at + StateWords::ROW].copy_from_slice(&row);
     words
 }
@@ -79,7 +79,8 @@ pub fn words_of(windows: Windows) -> [u32; 65]
     words[0] = windows.next;
     for i in 0..WindowCount::LIMIT {
         let row = windows.rows[i];
-        let more = with_words(words, i, row_words(row));
+        let window = Window { number: i };
+        let more = with_words(words, window, row_words(row));
         words = more;
     }
     words

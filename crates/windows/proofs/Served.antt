@@ -175,9 +175,6 @@ served_more S w m n p q os h e r =
 round : (x a : ℕ) → (x % 8 + a) % 8 ≡ (x + a) % 8
 round x a = omega arith
 
-below : (x : ℕ) → x % 8 < 8
-below x = omega arith
-
 less_not : (x : ℕ) → x < 8 → x ≡ 8 → ⊥
 less_not x h e = omega arith
 
@@ -210,7 +207,7 @@ module _ (S : List ℕ) (w d : ℕ) (l : length S ≡ 65) (t : waits S w ≡ tru
       other : (c ≡ d → ⊥) → ServedWithin (d + 1) S w (asked_by S w) (turning ∷ os)
       other x =
           let y : c < d = omega (arith, k, x) in
-          let v : served S < 8 = subst (λ (z : ℕ). z < 8) (sym g) (below (next_of S + c)) in
+          let v : served S < 8 = subst (λ (z : ℕ). z < 8) (sym g) (omega arith) in
           let n : w ≡ served S → ⊥ = λ z. apart (next_of S) c d y h (sym e ∙ z ∙ g) in
           let f : after_turn S ≡ after_serving S (served S) = turn_serves S (λ z. less_not (served S) v z) in
           let z : row_of (after_turn S) w ≡ row_of S w = ap (λ (x : List ℕ). row_of x w) f ∙ serving_row S l (served S) v w n in

@@ -4,7 +4,8 @@ ghost use Rattle.windows.specs.Windows.{idle_turn};
 
 use find_path::Report;
 use reports::report::refused;
-use window_state::rows::{WindowCount, Windows};
+use window_state::rows::Windows;
+use window_state::window::WindowCount;
 
 /// A turn: idle, or the window that was served and the report of its question.
 #[derive(Clone, Copy)]

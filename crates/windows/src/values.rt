@@ -8,8 +8,8 @@ use crate::turns::{Turn, Turning, idle_turn};
 use answer::answer::find_path;
 use snapshot::kind::Size;
 use snapshot::refusal::Refusal;
-use window_state::rows::{WindowCount, Windows, next_waiting};
-use window_state::serve::{after_serving, asked_by, place_fault, with_question};
+use window_state::rows::{Windows, next_waiting};
+use window_state::serve::{after_serving, asked_by, free_window, with_question};
 
 /// The state with a question placed, or why it is refused.
 pub fn placed(
@@ -19,24 +19,23 @@ pub fn placed(
 ) -> Result<Windows, Refusal>
     ensures { Placed (words_of windows) window (question_of question.now) (words_of (left windows result)) (fault_number result) }
 {
-    place_fault(windows, window)?;
-    Ok(with_question(windows, window, question))
+    let free = free_window(windows, window)?;
+    Ok(with_question(windows, free, question))
 }
 
 /// The state after a turn, and the turn.
 pub fn turned(windows: Windows, words: &[u32], area: &mut [u32]) -> Turning
     ensures { Turned (words_of windows) words.now area.old (words_of result.windows) area.new result.turn }
 {
-    let window = next_waiting(windows);
-    if window == WindowCount::LIMIT {
+    let Some(window) = next_waiting(windows) else {
         let turn = idle_turn();
         return Turning { windows, turn };
-    }
+    };
     let report = find_path(words, area, asked_by(windows, window));
     let windows = after_serving(windows, window);
     let turn = Turn {
         idle: false,
-        window: window,
+        window: window.number,
         report: report,
     };
     Turning { windows, turn }

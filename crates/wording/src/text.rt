@@ -1,7 +1,6 @@
 //! The text of a refusal, and of how many records of each kind there are.
 //! The buffer is lent: `wording` has no heap, and its callers know from the clauses that 512 bytes serve.
 ghost use Rattle.std.specs.Prelude.{◌≡◌, ◌++◌, ◌+◌, ◌≤◌, length};
-ghost use Rattle.snapshot.specs.Refusals.{refusal_number};
 ghost use Rattle.printing.specs.Output.{Put, bytes_of, decimal};
 ghost use Rattle.wording.specs.Text.{choose, meaning, refusal, asked_there, line, first_lines, last_lines, text_limit};
 
@@ -27,29 +26,46 @@ pub fn chosen<'a>(n: u32, m: u32, text: &'a [u8], other: &'a [u8]) -> &'a [u8]
     other
 }
 
-// What a refusal of words means; that of an area stands for any other.
-fn meaning(why: Refusal) -> &'static [u8]
-    ensures { result.now ≡ meaning (refusal_number why) }
+// What a refusal's number means; a number with no meaning of its own has that of an area.
+fn meaning(n: u32) -> &'static [u8]
+    ensures { result.now ≡ meaning n }
 {
-    match why {
-        Refusal::Words => b"more than 16384 words\n",
-        Refusal::Form => {
-            b"an unknown or falling kind, a wrong argument kind, or a missing argument\n"
-        }
-        Refusal::Range => {
-            b"a field outside its range, bad padding, or a builtin with another name\n"
-        }
-        Refusal::Undefined => b"a number that is not defined yet\n",
-        Refusal::Repeated => b"something that may stand once only is repeated\n",
-        Refusal::Place => {
-            b"a record that does not fit the records before it, or a map or crate left incomplete\n"
-        }
-        Refusal::Count => b"more than 64 crates, 512 modules, 2048 names or 2048 definitions\n",
-        Refusal::Bytes => b"more than 65536 bytes\n",
-        Refusal::Rest => b"a number of bytes that is not a multiple of 4\n",
-        Refusal::Edition => b"an edition other than 2015, 2018, 2021 and 2024\n",
-        _ => b"a work area of fewer than 16384 words\n",
-    }
+    let t = b"a work area of fewer than 16384 words\n";
+    let t = chosen(
+        n,
+        Refusal::Edition as u32,
+        b"an edition other than 2015, 2018, 2021 and 2024\n",
+        t,
+    );
+    let t = chosen(
+        n,
+        Refusal::Rest as u32,
+        b"a number of bytes that is not a multiple of 4\n",
+        t,
+    );
+    let t = chosen(n, Refusal::Bytes as u32, b"more than 65536 bytes\n", t);
+    let count = b"more than 64 crates, 512 modules, 2048 names or 2048 definitions\n";
+    let t = chosen(n, Refusal::Count as u32, count, t);
+    let place =
+        b"a record that does not fit the records before it, or a map or crate left incomplete\n";
+    let t = chosen(n, Refusal::Place as u32, place, t);
+    let t = chosen(
+        n,
+        Refusal::Repeated as u32,
+        b"something that may stand once only is repeated\n",
+        t,
+    );
+    let t = chosen(
+        n,
+        Refusal::Undefined as u32,
+        b"a number that is not defined yet\n",
+        t,
+    );
+    let range = b"a field outside its range, bad padding, or a builtin with another name\n";
+    let t = chosen(n, Refusal::Range as u32, range, t);
+    let form = b"an unknown or falling kind, a wrong argument kind, or a missing argument\n";
+    let t = chosen(n, Refusal::Form as u32, form, t);
+    chosen(n, Refusal::Words as u32, b"more than 16384 words\n", t)
 }
 
 // A number after its label.
@@ -63,6 +79,7 @@ fn put_labelled(out: &mut [u8], at: usize, label: &[u8], n: u64) -> usize
 }
 
 // The same, up to the end of the line.
+// `n` is the number that is put, and no length.
 fn put_line(out: &mut [u8], at: usize, label: &[u8], n: usize) -> usize
     requires { at + length label.now + 21 ≤ length out.old }
     ensures put { Put out.old at ((label.now ++ decimal n) ++ bytes_of "\n") out.new result }
@@ -73,13 +90,13 @@ fn put_line(out: &mut [u8], at: usize, label: &[u8], n: usize) -> usize
 }
 
 /// The number and its place, then the meaning.
-pub fn put_refusal(out: &mut [u8], why: Refusal, place: usize) -> usize
+pub fn put_refusal(out: &mut [u8], n: u32, place: usize) -> usize
     requires { text_limit ≤ length out.old }
-    ensures { Put out.old 0 (refusal (refusal_number why) place) out.new result }
+    ensures { Put out.old 0 (refusal n place) out.new result }
 {
-    let a = put_labelled(out, 0, b"refused ", why.number() as u64);
+    let a = put_labelled(out, 0, b"refused ", n as u64);
     let b = put_line(out, a, b" at ", place);
-    put(out, b, meaning(why))
+    put(out, b, meaning(n))
 }
 
 /// The refusal of a word at which a question begins.
@@ -109,6 +126,7 @@ fn put_first_lines(out: &mut [u8], at: usize, l: Layout) -> usize
 }
 
 // The kinds from children to externs.
+// As `put_first_lines` of other kinds. One loop over labels and counts would have the length of what is put as an invariant; here the clauses add it up.
 fn put_last_lines(out: &mut [u8], at: usize, l: Layout) -> usize
     requires { at + 179 ≤ length out.old }
     ensures put { Put out.old at (last_lines l.children l.preludes l.definitions l.scopes l.imports l.externs)

@@ -5,10 +5,10 @@ use mathlib.Core.List.{List}
 use Rattle.snapshot.specs.Sizes.{dependency_size}
 use Rattle.snapshot.specs.Records.{import_at, dependency_at}
 use Rattle.snapshot.specs.Origins.{origin_number}
-use Rattle.snapshot.specs.Layouts.{dependency_base, snap_of}
+use Rattle.snapshot.specs.Layouts.{dependency_base}
 use Rattle.snapshot.proofs.Laws.{rows_whole}
 use Rattle.hir_def.specs.Finds.{select}
-use Rattle.hir_def.specs.Nameres.{dependencies_of}
+use Rattle.hir_def.specs.Nameres.{dependencies_of, lang_of}
 use Rattle.hir_def.specs.ImportMap.{import_info_for}
 use Rattle.hir_def.specs.Entries.{entry_of}
 use Rattle.hir_def.proofs.Lookups.{next_record, next_none, imports_whole}
@@ -24,11 +24,12 @@ use Rattle.charged_search.proofs.Parts.{go_sysroot, go_dependencies, lang_stable
 use Rattle.charged_search.proofs.Holding.{offered, charge_sum, module_small, held_nothing, home_below}
 use Rattle.charged_search.proofs.Runs.{begun_later, lang_passed, deps_passed, lang_run, rest_run, import_run, running_done}
 use Rattle.charged_search.proofs.Runs.{imports_end, imports_next, deps_end, deps_next}
+use Rattle.snapshot.specs.Laid.{snap_by}
 use Rattle.charged_search.proofs.+charged.Goals as goal
 
 pub calculate_best_path-charge-requires : goal.calculate_best_path-charge-requires
 calculate_best_path-charge-requires t c = (
-  module_small c.args.words.now c.args.area.now c.args.l c.args.item c.requires.0.ready.reads
+  module_small c.args.records.now.words.now c.args.area.now c.args.records.now.layout c.args.item c.requires.0.ready.reads
       c.requires.1.0,
   c.requires.2,
 )
@@ -49,7 +50,7 @@ pub calculate_best_path-returns-in-Err : goal.calculate_best_path-returns-in-Err
 calculate_best_path-returns-in-Err t c =
     let a = c.args in
     record {
-      same = best_empty (snap_of a.words.now a.area.now a.l) a.x a.left a.item a.t
+      same = best_empty (snap_by a.records.now a.area.now) a.x a.left a.item a.t
           c.charge.ensures c.in-Err.is c.nothing-choice.ensures;
       tables = refl;
     }
@@ -59,7 +60,7 @@ calculate_best_path-returns-in-Ok t c =
     let a = c.args in
     let f = c.search_charged in
     record {
-      same = f.ensures.same ∙ ap found_of (best_charged (snap_of a.words.now a.area.now a.l) a.x a.left a.item
+      same = f.ensures.same ∙ ap found_of (best_charged (snap_by a.records.now a.area.now) a.x a.left a.item
           a.t c.charge.ensures
           c.in-Ok.is);
       tables = f.ensures.tables;
@@ -69,8 +70,8 @@ pub find_import-returns-then-is_hidden : goal.find_import-returns-then-is_hidden
 find_import-returns-then-is_hidden t c =
     let a = c.args in
     record {
-      same = ap found_of (import_hidden (snap_of a.words.now a.area.now a.l) a.x a.left (out_of a.o)
-          (import_at a.words.now a.h) _ (sym c.is_hidden.ensures ∙ c.if-is_hidden.true));
+      same = ap found_of (import_hidden (snap_by a.records.now a.area.now) a.x a.left (out_of a.o)
+          (import_at a.records.now.words.now a.h) _ (sym c.is_hidden.ensures ∙ c.if-is_hidden.true));
       tables = refl;
     }
 
@@ -84,15 +85,17 @@ find_import-find_path_for_module-r-requires t c =
       (g.ready, omega (arith, c.import_container.ensures, c.requires.1), omega (arith, k, e, g.limit), c.requires.3.tank),
     )
 
+pub find_import-invariant_of-db : goal.find_import-invariant_of-db
+find_import-invariant_of-db t c = record { reads = same_reads _ _ _ _ c.find_path_for_module-r.ensures.tables c.requires.0.ready.reads }
+
 pub find_import-offer_import-choice-requires : goal.find_import-offer_import-choice-requires
 find_import-offer_import-choice-requires t c =
     let a = c.args in
     let g = c.requires.0 in
     let f = c.find_path_for_module-r in
     let k = length_falls a.left a.o.choice g.some in
-    let q = offered a.words.now a.area.now a.l a.x a.left _ _ _ f.result g.ready.reads g.limit
+    let q = offered a.records.now.words.now a.area.now a.records.now.layout a.x a.left _ _ _ f.result g.ready.reads g.limit
     (omega (arith, k, c.length_left-n.ensures)) f.ensures.same in (
-      same_reads a.words.now a.area.now _ a.l f.ensures.tables g.ready.reads,
       c.requires.2,
       omega (arith, c.requires.3.few, g.limit),
       q.few,
@@ -114,22 +117,19 @@ pub find_in_dep-loop-next-init : goal.find_in_dep-loop-next-init
 find_in_dep-loop-next-init t c =
     let a = c.args in
     record {
-      same = ap (imports (snap_of a.words.now a.area.now a.l) a.x a.left (out_of a.o))
-          (sym (imports_whole a.words.now a.area.now a.l a.c.0 a.item));
+      same = ap (imports (snap_by a.records.now a.area.now) a.x a.left (out_of a.o))
+          (sym (imports_whole a.records.now.words.now a.area.now a.records.now.layout a.c.0 a.item));
       tables = refl;
       long = refl;
       held = c.requires.1;
     }
-
-pub find_in_dep-import_info_for-requires : goal.find_in_dep-import_info_for-requires
-find_in_dep-import_info_for-requires t c = few_words _ _ _ c.requires.0.ready.reads
 
 pub find_in_dep-find_import-best-requires : goal.find_in_dep-find_import-best-requires
 find_in_dep-find_import-best-requires t c =
     let a = c.args in
     let g = c.loop-next in
     let m = next_record (c.import_info_for.ensures a.area.now) c.in-Some.is in
-    let q = import_meets a.words.now a.area.now a.l c.requires.0.ready.reads m in
+    let q = import_meets a.records.now.words.now a.area.now a.records.now.layout c.requires.0.ready.reads m in
     (omega (arith, c.decreases), (begun_later c.requires.0 g.invariant.tables g.invariant.long, q.container, q, g.invariant.held))
 
 pub find_in_dep-overflow_add-k : goal.find_in_dep-overflow_add-k
@@ -152,30 +152,27 @@ find_in_dep-loop-next-preserved t c =
     let m = next_record (c.import_info_for.ensures a.area.now)
     c.in-Some.is in
     let g = c.loop-next in
-    imports_next a.words.now a.area.now g.area a.l a.x a.left c.requires.0.ready c.requires.0.some
-    g.invariant m c.find_import-best.ensures c.find_import-best.auto.area
+    imports_next a.records.now.words.now a.area.now g.area a.records.now.layout a.x a.left c.requires.0.ready c.requires.0.some
+    g.invariant m c.find_import-best.ensures (omega (arith, c.find_import-best.array_long, c.told-area, g.invariant.long))
 
 pub find_in_dep-returns : goal.find_in_dep-returns
 find_in_dep-returns t c =
     let a = c.args in
     let g = c.loop-next in
-    running_done g.invariant (imports_end a.words.now a.area.now g.area a.l a.x a.left c.requires.0.ready
+    running_done g.invariant (imports_end a.records.now.words.now a.area.now g.area a.records.now.layout a.x a.left c.requires.0.ready
     c.requires.0.some g.best _ (next_none (c.import_info_for.ensures a.area.now) c.in_default.is).none)
 
 pub find_in_deps-loop-next-init : goal.find_in_deps-loop-next-init
 find_in_deps-loop-next-init t c =
     let a = c.args in
     record {
-      same = ap (dependencies (snap_of a.words.now a.area.now a.l) a.x a.left a.item (out_of a.o))
+      same = ap (dependencies (snap_by a.records.now a.area.now) a.x a.left a.item (out_of a.o))
           (sym (rows_whole (select (among a.x.from_crate.0 a.which))
-          (λ i. dependency_at a.words.now (dependency_base a.l + dependency_size * i)) a.l.dependencies));
+          (λ i. dependency_at a.records.now.words.now (dependency_base a.records.now.layout + dependency_size * i)) a.records.now.layout.dependencies));
       tables = refl;
       long = refl;
       held = c.requires.1;
     }
-
-pub find_in_deps-next_dependency-requires : goal.find_in_deps-next_dependency-requires
-find_in_deps-next_dependency-requires t c = few_words _ _ _ c.requires.0.ready.reads
 
 pub find_in_deps-find_in_dep-best-requires : goal.find_in_deps-find_in_dep-best-requires
 find_in_deps-find_in_dep-best-requires t c =
@@ -203,34 +200,32 @@ find_in_deps-loop-next-preserved t c =
     let m = next_record c.next_dependency.ensures
     c.in-Some.is in
     let g = c.loop-next in
-    deps_next a.words.now a.area.now g.area a.l a.x a.left c.requires.0.ready c.requires.0.some a.item
-    g.invariant m c.dependency_crate.ensures c.find_in_dep-best.ensures c.find_in_dep-best.auto.area
+    deps_next a.records.now.words.now a.area.now g.area a.records.now.layout a.x a.left c.requires.0.ready c.requires.0.some a.item
+    g.invariant m c.dependency_crate.ensures c.find_in_dep-best.ensures (omega (arith, c.find_in_dep-best.array_long, c.told-area, g.invariant.long))
 
 pub find_in_deps-returns : goal.find_in_deps-returns
 find_in_deps-returns t c =
     let a = c.args in
     let g = c.loop-next in
-    running_done g.invariant (deps_end a.words.now a.area.now g.area a.l a.x a.left c.requires.0.ready
+    running_done g.invariant (deps_end a.records.now.words.now a.area.now g.area a.records.now.layout a.x a.left c.requires.0.ready
     c.requires.0.some a.item g.best _ (next_none c.next_dependency.ensures c.in_default.is).none)
 
 pub find_in_lang-returns-then-is_stable : goal.find_in_lang-returns-then-is_stable
 find_in_lang-returns-then-is_stable t c =
     let a = c.args in
     record {
-      same = ap found_of (lang_stable (snap_of a.words.now a.area.now a.l) a.x a.left a.item (out_of a.o)
+      same = ap found_of (lang_stable (snap_by a.records.now a.area.now) a.x a.left a.item (out_of a.o)
           (origin_number a.lang) _ (sym c.is_stable.ensures ∙ c.if-is_stable.true));
       tables = refl;
     }
 
-pub find_in_lang-lang_of-requires : goal.find_in_lang-lang_of-requires
-find_in_lang-lang_of-requires t c = few_words _ _ _ c.requires.0.ready.reads
-
 pub find_in_lang-returns-in_default : goal.find_in_lang-returns-in_default
 find_in_lang-returns-in_default t c =
     let a = c.args in
-    let e = sym (ap (entry_of dependency_at a.words.now) c.in_default.is) ∙ c.lang_of.ensures a.area.now in
+    let e = sym (ap (entry_of dependency_at a.records.now.words.now) c.in_default.is) ∙ c.lang_of.ensures a.area.now
+    ∙ ap (lang_of (snap_by a.records.now a.area.now) a.x.from_crate.0) c.number.ensures in
     record {
-      same = ap found_of (lang_none (snap_of a.words.now a.area.now a.l) a.x a.left a.item (out_of a.o)
+      same = ap found_of (lang_none (snap_by a.records.now a.area.now) a.x a.left a.item (out_of a.o)
           (origin_number a.lang) _ (sym c.is_stable.ensures ∙ c.if-is_stable.false) e);
       tables = refl;
     }
@@ -239,14 +234,15 @@ pub find_in_lang-returns : goal.find_in_lang-returns
 find_in_lang-returns t c =
     let a = c.args in
     let f = c.find_in_dep in
-    let e = sym (ap (entry_of dependency_at a.words.now) c.in-Some.is)
-    ∙ c.lang_of.ensures a.area.now in
+    let e = sym (ap (entry_of dependency_at a.records.now.words.now) c.in-Some.is)
+    ∙ c.lang_of.ensures a.area.now
+    ∙ ap (lang_of (snap_by a.records.now a.area.now) a.x.from_crate.0) c.number.ensures in
     record {
       same =
           f.ensures.same
-          ∙ ap (λ (z : ℕ). found_of (imports (snap_of a.words.now a.area.now a.l) a.x a.left (out_of a.o)
-          (import_info_for (snap_of a.words.now a.area.now a.l) z a.item))) c.dependency_crate.ensures
-          ∙ ap found_of (lang_some (snap_of a.words.now a.area.now a.l) a.x a.left a.item (out_of a.o)
+          ∙ ap (λ (z : ℕ). found_of (imports (snap_by a.records.now a.area.now) a.x a.left (out_of a.o)
+          (import_info_for (snap_by a.records.now a.area.now) z a.item))) c.dependency_crate.ensures
+          ∙ ap found_of (lang_some (snap_by a.records.now a.area.now) a.x a.left a.item (out_of a.o)
           (origin_number a.lang) _ _ (sym c.is_stable.ensures
           ∙ c.if-is_stable.false) e);
       tables = f.ensures.tables;
@@ -256,7 +252,7 @@ pub find_in_rest-returns-then-is_stable : goal.find_in_rest-returns-then-is_stab
 find_in_rest-returns-then-is_stable t c =
     let a = c.args in
     record {
-      same = ap found_of (rest_stable (snap_of a.words.now a.area.now a.l) a.x a.left a.item
+      same = ap found_of (rest_stable (snap_by a.records.now a.area.now) a.x a.left a.item
           (out_of a.o) _ (sym c.is_stable.ensures ∙ c.if-is_stable.true));
       tables = refl;
     }
@@ -268,7 +264,7 @@ find_in_rest-find_in_deps-a-requires t c =
 pub find_in_rest-find_in_deps-requires : goal.find_in_rest-find_in_deps-requires
 find_in_rest-find_in_deps-requires t c =
     let a = c.args in
-    let p = deps_passed a.item _ (record { begun = c.requires.0; held = c.requires.1 }) c.find_in_deps-a.ensures c.find_in_deps-a.auto.area in
+    let p = deps_passed a.item _ (record { begun = c.requires.0; held = c.requires.1 }) c.find_in_deps-a.ensures c.find_in_deps-a.array_long c.told-area in
     (omega (arith, c.decreases), (p.begun, p.held))
 
 pub find_in_rest-returns : goal.find_in_rest-returns
@@ -283,32 +279,32 @@ find_in_rest-returns t c =
 pub find_in_sysroot-find_in_lang-b-requires : goal.find_in_sysroot-find_in_lang-b-requires
 find_in_sysroot-find_in_lang-b-requires t c =
     let a = c.args in
-    let p1 = lang_passed a.item _ (record { begun = c.requires.0; held = c.requires.1 }) c.find_in_lang-a.ensures c.find_in_lang-a.auto.area in
+    let p1 = lang_passed a.item _ (record { begun = c.requires.0; held = c.requires.1 }) c.find_in_lang-a.ensures c.find_in_lang-a.array_long c.told-area in
     (omega (arith, c.decreases), (p1.begun, p1.held))
 
 pub find_in_sysroot-find_in_lang-c-requires : goal.find_in_sysroot-find_in_lang-c-requires
 find_in_sysroot-find_in_lang-c-requires t c =
     let a = c.args in
-    let p1 = lang_passed a.item _ (record { begun = c.requires.0; held = c.requires.1 }) c.find_in_lang-a.ensures c.find_in_lang-a.auto.area in
-    let p2 = lang_passed a.item _ (p1) c.find_in_lang-b.ensures c.find_in_lang-b.auto.area in
+    let p1 = lang_passed a.item _ (record { begun = c.requires.0; held = c.requires.1 }) c.find_in_lang-a.ensures c.find_in_lang-a.array_long c.told-area in
+    let p2 = lang_passed a.item _ p1 c.find_in_lang-b.ensures c.find_in_lang-b.array_long c.find_in_lang-a.array_long in
     (omega (arith, c.decreases), (p2.begun, p2.held))
 
 pub find_in_sysroot-find_in_rest-requires : goal.find_in_sysroot-find_in_rest-requires
 find_in_sysroot-find_in_rest-requires t c =
     let a = c.args in
-    let p1 = lang_passed a.item _ (record { begun = c.requires.0; held = c.requires.1 }) c.find_in_lang-a.ensures c.find_in_lang-a.auto.area in
-    let p2 = lang_passed a.item _ (p1) c.find_in_lang-b.ensures c.find_in_lang-b.auto.area in
-    let p3 = lang_passed a.item _ (p2) c.find_in_lang-c.ensures c.find_in_lang-c.auto.area in
+    let p1 = lang_passed a.item _ (record { begun = c.requires.0; held = c.requires.1 }) c.find_in_lang-a.ensures c.find_in_lang-a.array_long c.told-area in
+    let p2 = lang_passed a.item _ p1 c.find_in_lang-b.ensures c.find_in_lang-b.array_long c.find_in_lang-a.array_long in
+    let p3 = lang_passed a.item _ p2 c.find_in_lang-c.ensures c.find_in_lang-c.array_long c.find_in_lang-b.array_long in
     (omega (arith, c.decreases), (p3.begun, p3.held))
 
 pub find_in_sysroot-returns : goal.find_in_sysroot-returns
 find_in_sysroot-returns t c =
     let a = c.args in
-    let p1 = lang_passed a.item _ (record { begun = c.requires.0; held = c.requires.1 }) c.find_in_lang-a.ensures c.find_in_lang-a.auto.area in
-    let p2 = lang_passed a.item _ (p1) c.find_in_lang-b.ensures c.find_in_lang-b.auto.area in
+    let p1 = lang_passed a.item _ (record { begun = c.requires.0; held = c.requires.1 }) c.find_in_lang-a.ensures c.find_in_lang-a.array_long c.told-area in
+    let p2 = lang_passed a.item _ p1 c.find_in_lang-b.ensures c.find_in_lang-b.array_long c.find_in_lang-a.array_long in
     let f3 = c.find_in_lang-c in
     let n = c.langs_for-langs in
-    subst (λ (ls : List ℕ). Searched a.area.now (sysroot (snap_of a.words.now a.area.now a.l) a.x a.left
+    subst (λ (ls : List ℕ). Searched a.area.now (sysroot (snap_by a.records.now a.area.now) a.x a.left
     a.item (out_of a.o) ls (is_stable a.o.choice)) c.find_in_rest.new.area c.find_in_rest.result) n.ensures
     (lang_run a.left a.item _ _ a.o c.requires.0.ready c.find_in_lang-a.ensures
     (lang_run a.left a.item _ _ c.find_in_lang-a.result p1.begun.ready c.find_in_lang-b.ensures
@@ -318,7 +314,7 @@ pub find_path_for_module-returns-then-left-eq0 : goal.find_path_for_module-retur
 find_path_for_module-returns-then-left-eq0 t c =
     let a = c.args in
     record {
-      same = module_none (snap_of a.words.now a.area.now a.l) a.x a.left a.m.0 a.t
+      same = module_none (snap_by a.records.now a.area.now) a.x a.left a.m.0 a.t
           c.if-left-eq0.true c.nothing-choice.ensures;
       tables = refl;
     }
@@ -327,7 +323,7 @@ pub find_path_for_module-returns-then-choice : goal.find_path_for_module-returns
 find_path_for_module-returns-then-choice t c =
     let a = c.args in
     record {
-      same = module_found (snap_of a.words.now a.area.now a.l) a.x a.left a.m.0 a.t
+      same = module_found (snap_by a.records.now a.area.now) a.x a.left a.m.0 a.t
           c.if-left-eq0.false c.module_rules-choice.ensures c.if-choice.true;
       tables = refl;
     }
@@ -352,28 +348,25 @@ find_path_for_module-returns t c =
     let a = c.args in
     let f = c.calculate_best_path in
     record {
-      same = f.ensures.same ∙ ap found_of (module_charged (snap_of a.words.now a.area.now a.l) a.x a.left
+      same = f.ensures.same ∙ ap found_of (module_charged (snap_by a.records.now a.area.now) a.x a.left
           a.m.0 a.t c.if-left-eq0.false
           c.module_rules-choice.ensures c.if-choice.false);
       tables = f.ensures.tables;
     }
 
-pub search_charged-home_of-home-requires : goal.search_charged-home_of-home-requires
-search_charged-home_of-home-requires t c = few_words _ _ _ c.requires.0.ready.reads
-
 pub search_charged-is_at-requires : goal.search_charged-is_at-requires
 search_charged-is_at-requires t c =
     let a = c.args in
     let r = c.requires.0.ready.reads in
-    (r, home_below a.words.now a.area.now a.l a.item r c.requires.1.0 (c.home_of-home.ensures a.area.now))
+    home_below a.records.now.words.now a.area.now a.records.now.layout a.item r c.requires.1.0 (c.home_of-home.ensures a.area.now)
 
 pub search_charged-returns-then-is_at : goal.search_charged-returns-then-is_at
 search_charged-returns-then-is_at t c =
     let a = c.args in
     let f = c.calculate_best_path_local-choice in
     record {
-      same = go_here (snap_of a.words.now a.area.now a.l) a.x a.left a.item a.t f.ensures.same
-          (at_home (snap_of a.words.now a.area.now a.l) a.item a.x.from_crate.0
+      same = go_here (snap_by a.records.now a.area.now) a.x a.left a.item a.t f.ensures.same
+          (at_home (snap_by a.records.now a.area.now) a.item a.x.from_crate.0
           (c.home_of-home.ensures a.area.now)
           c.is_at.ensures ∙ c.if-is_at.true);
       tables = f.ensures.tables;
@@ -389,9 +382,9 @@ search_charged-returns-then-x t c =
     let a = c.args in
     let f = c.find_in_sysroot in
     record {
-      same = f.ensures.same ∙ ap found_of (go_sysroot (snap_of a.words.now a.area.now a.l) a.x a.left a.item
+      same = f.ensures.same ∙ ap found_of (go_sysroot (snap_by a.records.now a.area.now) a.x a.left a.item
           a.t c.nothing-choice.ensures
-          (at_home (snap_of a.words.now a.area.now a.l) a.item a.x.from_crate.0
+          (at_home (snap_by a.records.now a.area.now) a.item a.x.from_crate.0
           (c.home_of-home.ensures a.area.now)
           c.is_at.ensures
           ∙ c.if-is_at.false) c.if-x.true);
@@ -409,9 +402,9 @@ search_charged-returns t c =
     let a = c.args in
     let f = c.find_in_deps in
     record {
-      same = f.ensures.same ∙ ap found_of (go_dependencies (snap_of a.words.now a.area.now a.l) a.x a.left
+      same = f.ensures.same ∙ ap found_of (go_dependencies (snap_by a.records.now a.area.now) a.x a.left
           a.item a.t c.nothing-choice.ensures
-          (at_home (snap_of a.words.now a.area.now a.l) a.item a.x.from_crate.0
+          (at_home (snap_by a.records.now a.area.now) a.item a.x.from_crate.0
           (c.home_of-home.ensures a.area.now)
           c.is_at.ensures
           ∙ c.if-is_at.false) c.if-x.false);

@@ -1,13 +1,14 @@
 use Prim.Native.Nat.{◌+◌, ◌-◌, ◌*◌}
 use Rattle.snapshot.specs.Sizes.{dependency_size, import_size}
 use Rattle.snapshot.specs.Records.{import_at, dependency_at}
-use Rattle.snapshot.specs.Layouts.{import_base, dependency_base, snap_of}
+use Rattle.snapshot.specs.Layouts.{import_base, dependency_base}
 use Rattle.hir_def.specs.Finds.{select}
 use Rattle.crate_graph.specs.Among.{among}
 use Rattle.hir_def.specs.ImportMap.{is_import, import_info_for}
 use Rattle.hir_def.specs.Entries.{left_of}
 use Rattle.charged_search.specs.Parts.{out_of, imports, dependencies}
 use Rattle.charged_search.proofs.Runs.{Running}
+use Rattle.snapshot.specs.Laid.{snap_by}
 use Rattle.charged_search.proofs.+charged.Given as goal
 
 abbrev pub decreases-calculate_best_path : goal.decreases-calculate_best_path
@@ -40,20 +41,20 @@ decreases-search_charged l = 8 * l.left + 6
 abbrev pub invariant-find_in_dep-loop-next : goal.invariant-find_in_dep-loop-next
 invariant-find_in_dep-loop-next l =
     Running l.initial.area l.area l.left l.best
-    (imports (snap_of l.words l.initial.area l.l) l.x l.left (out_of l.best) (left_of (is_import (snap_of l.words l.initial.area l.l) l.c.0 l.item)
-    (λ i. import_at l.words (import_base l.l + import_size * i)) l.l.imports l.k))
-    (imports (snap_of l.words l.initial.area l.l) l.x l.left (out_of l.initial.best) (import_info_for (snap_of l.words l.initial.area l.l) l.c.0 l.item))
+    (imports (snap_by l.records l.initial.area) l.x l.left (out_of l.best) (left_of (is_import (snap_by l.records l.initial.area) l.c.0 l.item)
+    (λ i. import_at l.records.words.now (import_base l.records.layout + import_size * i)) l.records.layout.imports l.k))
+    (imports (snap_by l.records l.initial.area) l.x l.left (out_of l.initial.best) (import_info_for (snap_by l.records l.initial.area) l.c.0 l.item))
 
 abbrev pub decreases-find_in_dep-loop-next : goal.decreases-find_in_dep-loop-next
-decreases-find_in_dep-loop-next l = l.l.imports - l.k
+decreases-find_in_dep-loop-next l = l.records.layout.imports - l.k
 
 abbrev pub invariant-find_in_deps-loop-next : goal.invariant-find_in_deps-loop-next
 invariant-find_in_deps-loop-next l =
     Running l.initial.area l.area l.left l.best
-    (dependencies (snap_of l.words l.initial.area l.l) l.x l.left l.item (out_of l.best) (left_of (among l.x.from_crate.0 l.which)
-    (λ i. dependency_at l.words (dependency_base l.l + dependency_size * i)) l.l.dependencies l.k))
-    (dependencies (snap_of l.words l.initial.area l.l) l.x l.left l.item (out_of l.initial.best) (select (among l.x.from_crate.0 l.which)
-    (snap_of l.words l.initial.area l.l).dependencies))
+    (dependencies (snap_by l.records l.initial.area) l.x l.left l.item (out_of l.best) (left_of (among l.x.from_crate.0 l.which)
+    (λ i. dependency_at l.records.words.now (dependency_base l.records.layout + dependency_size * i)) l.records.layout.dependencies l.k))
+    (dependencies (snap_by l.records l.initial.area) l.x l.left l.item (out_of l.initial.best) (select (among l.x.from_crate.0 l.which)
+    (snap_by l.records l.initial.area).dependencies))
 
 abbrev pub decreases-find_in_deps-loop-next : goal.decreases-find_in_deps-loop-next
-decreases-find_in_deps-loop-next l = l.l.dependencies - l.k
+decreases-find_in_deps-loop-next l = l.records.layout.dependencies - l.k

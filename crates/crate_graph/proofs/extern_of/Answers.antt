@@ -8,7 +8,7 @@ returns-then-is_extern c =
     λ A.
     let w = c.loop-k in
     back_hit _ _ _ _ w.invariant.1 c.loop-k-test.true refl c.is_extern.ensures c.if-is_extern.true
-    ∙ extern_whole c.args.words.now A c.args.l c.args.c.0 c.args.m.0 c.extern_base-base.ensures
+    ∙ extern_whole c.args.records.now.words.now A c.args.records.now.layout c.args.c.0 c.args.m.0 c.extern_base-base.ensures
 
 pub loop-k-preserved : goal.loop-k-preserved
 loop-k-preserved c =
@@ -23,4 +23,4 @@ returns c =
     λ A.
     let w = c.loop-k in
     back_none _ _ _ _ w.invariant.1 c.loop-k-test.false
-    ∙ extern_whole c.args.words.now A c.args.l c.args.c.0 c.args.m.0 c.extern_base-base.ensures
+    ∙ extern_whole c.args.records.now.words.now A c.args.records.now.layout c.args.c.0 c.args.m.0 c.extern_base-base.ensures

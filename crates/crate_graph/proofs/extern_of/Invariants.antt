@@ -10,5 +10,5 @@ use Rattle.crate_graph.proofs.extern_of.Given as goal
 
 abbrev pub invariant-loop-k : goal.invariant-loop-k
 invariant-loop-k l = (l.k ≤ l.initial.k)
-    × (first_of (is_extern l.c.0 l.m.0) (reverse (rows (λ i. extern_at l.words (l.base + extern_size * i)) 0 l.initial.k))
-    ≡ first_of (is_extern l.c.0 l.m.0) (reverse (rows (λ i. extern_at l.words (l.base + extern_size * i)) 0 l.k)))
+    × (first_of (is_extern l.c.0 l.m.0) (reverse (rows (λ i. extern_at l.records.words.now (l.base + extern_size * i)) 0 l.initial.k))
+    ≡ first_of (is_extern l.c.0 l.m.0) (reverse (rows (λ i. extern_at l.records.words.now (l.base + extern_size * i)) 0 l.k)))

@@ -1,14 +1,14 @@
 use mathlib.Core.Path.{ap, ap₂, ◌∙◌}
 use mathlib.Core.Bool.{◌&&◌}
 use lib.Dec.{eqb}
-use Rattle.snapshot.specs.Layouts.{snap_of}
 use Rattle.hir_def.specs.Items.{crate_data}
+use Rattle.snapshot.specs.Laid.{snap_by}
 use Rattle.crate_graph.proofs.is_lang_sysroot.Goals as goal
 
 pub returns : goal.returns
 returns c =
     λ A.
-    let S = snap_of c.args.words.now A c.args.l in
+    let S = snap_by c.args.records.now A in
     ap₂ (λ o t. eqb o c.args.c.0 && t) c.dependency_owner-owner.ensures
     (ap₂ ◌&&◌ (ap (λ n. eqb n 1) c.dependency_sysroot-inside.ensures)
-    (ap₂ eqb (c.origin_of-origin.ensures A ∙ ap (λ d. (crate_data S d).origin) c.dependency_crate.ensures) c.number_of.ensures))
+    (ap (λ n. eqb n c.args.lang) (c.origin_of-origin.ensures A ∙ ap (λ d. (crate_data S d).origin) c.dependency_crate.ensures)))

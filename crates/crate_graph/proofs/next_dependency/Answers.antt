@@ -6,5 +6,5 @@ use Rattle.crate_graph.proofs.next_dependency.Goals as goal
 
 pub returns : goal.returns
 returns c =
-    next_by (among c.args.c.0 c.args.which) dependency_at c.args.words.now _ _ c.dependency_base.ensures
+    next_by (among c.args.c.0 c.args.which) dependency_at c.args.records.now.words.now _ _ c.dependency_base.ensures
     (λ h t p. search rules) _ _ c.next_where.ensures

@@ -9,5 +9,5 @@ pub returns : goal.returns
 unfolding prelude_of
 returns c =
     λ A.
-    first_by (λ p. eqb p.map c.args.map) prelude_at c.args.words.now _ _ c.prelude_base.ensures
+    first_by (λ p. eqb p.map c.args.map) prelude_at c.args.records.now.words.now _ _ c.prelude_base.ensures
     (λ h t p. search rules) _ c.first_where.ensures

@@ -4,4 +4,4 @@ use Rattle.distances.proofs.mark.Goals as goal
 
 pub returns : goal.returns
 returns c =
-    mark_set c.args.area.now c.args.m.0 c.requires.0 c.requires.1 c.word.ensures (λ h. omega (arith, c.if-word-le1.false, h))
+    mark_set c.args.area.now c.args.m.0 c.told-area c.requires c.word.ensures (λ h. omega (arith, c.if-word-le1.false, h))

@@ -6,7 +6,7 @@ use Rattle.distances.proofs.mark_entry.Goals as goal
 pub returns-then-owner-c : goal.returns-then-owner-c
 returns-then-owner-c c = (
   lowers_same _,
-  entry_other c.args.words.now c.args.area.now c.args.l c.args.c.0 c.args.h
+  entry_other c.args.records.now.words.now c.args.area.now c.args.records.now.layout c.args.c.0 c.args.h
       c.scope_owner-owner.ensures c.if-owner-c.true,
 )
 
@@ -14,27 +14,24 @@ pub returns-in_default : goal.returns-in_default
 returns-in_default c =
     let A = c.args.area.now in (
       lowers_same _,
-      entry_plain c.args.words.now A c.args.l c.args.c.0 c.args.h (c.item_of-item.ensures A)
+      entry_plain c.args.records.now.words.now A c.args.records.now.layout c.args.c.0 c.args.h (c.item_of-item.ensures A)
           c.scope_ns.ensures c.scope_definition.ensures c.in_default.is,
     )
 
 pub mark-requires : goal.mark-requires
 mark-requires c =
-    let A = c.args.area.now in (
-      c.requires.0.area,
-      omega (
-        arith,
-        c.requires.0.reads.tables.limited.modules,
-        entry_below c.args.words.now A c.args.l
-            c.args.c.0 c.args.h (c.item_of-item.ensures A) c.scope_ns.ensures c.scope_definition.ensures
-            c.requires.0.reads c.requires.1 c.in-Mod.is,
-      ),
+    let A = c.args.area.now in omega (
+      arith,
+      c.requires.0.reads.tables.limited.modules,
+      entry_below c.args.records.now.words.now A c.args.records.now.layout
+          c.args.c.0 c.args.h (c.item_of-item.ensures A) c.scope_ns.ensures c.scope_definition.ensures
+          c.requires.0.reads c.requires.1 c.in-Mod.is,
     )
 
 pub returns : goal.returns
 returns c =
     let A = c.args.area.now in (
       c.mark.ensures.0,
-      entry_marked c.args.words.now A c.args.l c.args.c.0 c.args.h (c.item_of-item.ensures A)
+      entry_marked c.args.records.now.words.now A c.args.records.now.layout c.args.c.0 c.args.h (c.item_of-item.ensures A)
           c.scope_ns.ensures c.scope_definition.ensures c.mark.new.area c.in-Mod.is c.mark.ensures.1,
     )

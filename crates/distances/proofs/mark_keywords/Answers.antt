@@ -1,4 +1,4 @@
-use mathlib.Core.Path.{ap, ◌∙◌}
+use mathlib.Core.Path.{sym, ap, ◌∙◌}
 use Rattle.snapshot.specs.Records.{Snapshot}
 use Rattle.snapshot.specs.Layouts.{snap_of}
 use Rattle.hir_def.specs.Items.{parent_of}
@@ -8,15 +8,14 @@ use Rattle.distances.proofs.Lowering.{lowers_snap, lowers_ready, lowers_then, di
 use Rattle.distances.proofs.Marking.{keywords_one, keywords_two, parent_known}
 use Rattle.distances.proofs.mark_keywords.Goals as goal
 
-pub parent-requires : goal.parent-requires
-parent-requires c =
-    ((lowers_ready c.args.words.now c.args.l c.mark_keyword.ensures.0 c.requires.0 c.mark_keyword.auto.area).reads, c.requires.1)
+pub invariant_of-db : goal.invariant_of-db
+invariant_of-db c = record { reads = (lowers_ready c.args.records.now.words.now c.args.records.now.layout c.mark_keyword.ensures.0 c.requires.0 (c.mark_keyword.array_long ∙ sym c.told-area)).reads }
 
 pub returns-in_default : goal.returns-in_default
 returns-in_default c =
-    let W = c.args.words.now in
+    let W = c.args.records.now.words.now in
     let A = c.args.area.now in
-    let l = c.args.l in
+    let l = c.args.records.now.layout in
     let f = c.mark_keyword.ensures in
     let q = c.parent.ensures ∙ ap (λ (z : Snapshot). parent_of z c.args.x.from.0)
     (lowers_snap W l f.0 c.requires.0.reads) in
@@ -24,13 +23,13 @@ returns-in_default c =
 
 pub mark_keyword-requires-2 : goal.mark_keyword-requires-2
 mark_keyword-requires-2 c =
-    let W = c.args.words.now in
+    let W = c.args.records.now.words.now in
     let A = c.args.area.now in
-    let l = c.args.l in
+    let l = c.args.records.now.layout in
     let f = c.mark_keyword.ensures in
     let q = c.parent.ensures ∙ ap (λ (z : Snapshot). parent_of z c.args.x.from.0)
     (lowers_snap W l f.0 c.requires.0.reads) in (
-      lowers_ready W l f.0 c.requires.0 c.mark_keyword.auto.area,
+      lowers_ready W l f.0 c.requires.0 (c.mark_keyword.array_long ∙ sym c.told-area),
       c.requires.1,
       parent_known W A l c.requires.0.reads
           c.args.x.from.0 c.requires.1 (some_number _ q c.in-Some.is),
@@ -38,9 +37,9 @@ mark_keyword-requires-2 c =
 
 pub returns : goal.returns
 returns c =
-    let W = c.args.words.now in
+    let W = c.args.records.now.words.now in
     let A = c.args.area.now in
-    let l = c.args.l in
+    let l = c.args.records.now.layout in
     let f = c.mark_keyword.ensures in
     let g = c.mark_keyword-2.ensures in
     let sn = lowers_snap W l f.0 c.requires.0.reads in

@@ -5,4 +5,4 @@ use Rattle.distances.specs.Post.{Rooted}
 use Rattle.distances.proofs.set_roots.Given as goal
 
 abbrev pub invariant-loop-m : goal.invariant-loop-m
-invariant-loop-m l = Rooted l.words l.initial.area l.l l.m l.area × (length l.area ≡ length l.initial.area) × (l.m ≤ l.count)
+invariant-loop-m l = Rooted l.records.words.now l.initial.area l.records.layout l.m l.area × (length l.area ≡ length l.initial.area) × (l.m ≤ l.count)

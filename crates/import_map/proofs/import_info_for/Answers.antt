@@ -8,5 +8,5 @@ use Rattle.import_map.proofs.import_info_for.Goals as goal
 pub returns : goal.returns
 returns c =
     λ A.
-    next_by (is_import (snap_of c.args.words.now A c.args.l) c.args.c.0 c.args.item) import_at c.args.words.now _ _
+    next_by (is_import (snap_of c.args.records.now.words.now A c.args.records.now.layout) c.args.c.0 c.args.item) import_at c.args.records.now.words.now _ _
     c.import_base.ensures (λ h t p. search rules) _ _ c.next_where.ensures

@@ -11,7 +11,7 @@ returns-then-owner-c c = λ A. and_no _ (ne_eqb _ _ (λ e. c.if-owner-c.true (c.
 pub returns : goal.returns
 returns c =
     λ A.
-    let S = snap_of c.args.words.now A c.args.l in
+    let S = snap_of c.args.records.now.words.now A c.args.records.now.layout in
     and_yes (eq-eqb _ _ (sym c.import_owner-owner.ensures
     ∙ c.if-owner-c.false))
     (c.same_item.ensures ∙ ap (λ x. same_item x c.args.item) (c.item_of.ensures A

@@ -12,8 +12,8 @@ unfolding names_of names_reads preferred preferred_reads
 returns c =
     let x =
     λ (A : List ℕ).
-    let S = snap_of c.args.words.now A c.args.l in
-    c.preferred.ensures c.args.words.now (λ e. is_for S c.args.m.0 c.args.item e && counts c.args.declared e)
+    let S = snap_of c.args.records.now.words.now A c.args.records.now.layout in
+    c.preferred.ensures c.args.records.now.words.now (λ e. is_for S c.args.m.0 c.args.item e && counts c.args.declared e)
     (λ e. is_for S c.args.m.0 c.args.item e && is_fresh (counts c.args.declared) e) (λ h t p. search rules) (λ h t p. search rules)
     (less_fresh (is_for S c.args.m.0 c.args.item) (counts c.args.declared))
     in

@@ -14,7 +14,7 @@ pub returns : goal.returns
 unfolding is_for
 returns c =
     λ A.
-    let S = snap_of c.args.words.now A c.args.l in
+    let S = snap_of c.args.records.now.words.now A c.args.records.now.layout in
     and_yes (eq-eqb _ _ (sym c.scope_owner-owner.ensures
     ∙ c.if-owner-m.false))
     (c.same_item.ensures ∙ ap (λ x. same_item x c.args.item) (c.item_of.ensures A

@@ -15,7 +15,7 @@ returns-then-owner-m c = λ A. and_no _ (ne_eqb _ _ (λ e. c.if-owner-m.true (c.
 pub returns : goal.returns
 returns c =
     λ A.
-    let S = snap_of c.args.words.now A c.args.l in
+    let S = snap_of c.args.records.now.words.now A c.args.records.now.layout in
     and_yes (eq-eqb _ _ (sym c.scope_owner-owner.ensures ∙ c.if-owner-m.false))
-    (ap₂ (λ n k. eqb n 0 && k) c.scope_ns.ensures (kind_is Module _ c.eq.ensures (c.kind_of-kind.ensures A)
+    (ap₂ (λ n k. eqb n 0 && k) c.scope_ns.ensures (kind_is Module _ c.eq.ensures (c.known_kind_of-kind.ensures A)
     ∙ ap (λ d. eqb (definition_of S d).kind 1) c.scope_definition.ensures))

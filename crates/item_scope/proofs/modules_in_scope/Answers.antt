@@ -8,5 +8,5 @@ use Rattle.item_scope.proofs.modules_in_scope.Goals as goal
 pub returns : goal.returns
 returns c =
     λ A.
-    next_by (is_module_entry (snap_of c.args.words.now A c.args.l) c.args.m.0) scope_at c.args.words.now _ _ c.scope_base.ensures
+    next_by (is_module_entry (snap_of c.args.records.now.words.now A c.args.records.now.layout) c.args.m.0) scope_at c.args.records.now.words.now _ _ c.scope_base.ensures
     (λ h t p. search rules) _ _ c.next_where.ensures

@@ -10,7 +10,7 @@ use Rattle.hir_def.proofs.Searches.{met_by, found_by, none_by}
 use Rattle.item_scope.proofs.names_of.Goals as goal
 
 pub overflow_add-result : goal.overflow_add-result
-overflow_add-result c = let m = met_by _ _ _ _ _ c.next_where.ensures c.in-Some.is in record { fits = omega (arith, m.below, c.requires) }
+overflow_add-result c = let m = met_by _ _ _ _ _ c.next_where.ensures c.in-Some.is in record { fits = omega (arith, m.below, c.args.records.now.fits) }
 
 pub returns-in-Some : goal.returns-in-Some
 unfolding names_of names_reads
@@ -19,8 +19,8 @@ returns-in-Some c =
     let m = met_by _ _ _ _ _ c.next_where.ensures c.in-Some.is in
     let x =
     λ (A : List ℕ).
-    found_by (λ e. is_for (snap_of c.args.words.now A c.args.l) c.args.m.0 c.args.item e && counts c.args.declared e)
-    scope_at c.args.words.now _ _ b (λ h t p. search rules) c.next_where.ensures c.in-Some.is
+    found_by (λ e. is_for (snap_of c.args.records.now.words.now A c.args.records.now.layout) c.args.m.0 c.args.item e && counts c.args.declared e)
+    scope_at c.args.records.now.words.now _ _ b (λ h t p. search rules) c.next_where.ensures c.in-Some.is
     in
     (λ A. (x A).0, λ A. (x A).1, omega (arith, b, m.head))
 
@@ -29,7 +29,7 @@ unfolding names_of names_reads
 returns-in-None c =
     let x =
     λ (A : List ℕ).
-    none_by (λ e. is_for (snap_of c.args.words.now A c.args.l) c.args.m.0 c.args.item e && counts c.args.declared e)
-    scope_at c.args.words.now _ _ c.scope_base.ensures (λ h t p. search rules) c.next_where.ensures c.in-None.is
+    none_by (λ e. is_for (snap_of c.args.records.now.words.now A c.args.records.now.layout) c.args.m.0 c.args.item e && counts c.args.declared e)
+    scope_at c.args.records.now.words.now _ _ c.scope_base.ensures (λ h t p. search rules) c.next_where.ensures c.in-None.is
     in
     (λ A. (x A).0, λ A. (x A).1, search rules)

@@ -1,6 +1,6 @@
-use Rattle.snapshot.specs.Layouts.{snap_of}
 use Rattle.local_search.proofs.Nests.{Nesting}
 use Prim.Native.Nat.{◌+◌, ◌*◌}
+use Rattle.snapshot.specs.Laid.{snap_by}
 use Rattle.local_search.proofs.+find_path_for_module_local_local_at_location_tight_at.Given as goal
 
 abbrev pub decreases-find_path_for_module_local : goal.decreases-find_path_for_module_local
@@ -17,4 +17,4 @@ decreases-tight_at l = 4 * l.left + 2
 
 abbrev pub invariant-local_at-loop-k : goal.invariant-local_at-loop-k
 invariant-local_at-loop-k l =
-    Nesting l.words l.l (snap_of l.words l.initial.area l.l) l.x l.left l.item l.initial.area l.s l.n l.area l.best l.k
+    Nesting l.records.words.now l.records.layout (snap_by l.records l.initial.area) l.x l.left l.sought.item l.initial.area l.s l.n l.area l.best l.k

@@ -1,17 +1,17 @@
-use Rattle.snapshot.specs.Layouts.{snap_of}
 use Rattle.distances.specs.Distances.{distance}
 use Rattle.local_search.proofs.Searches.{ruling_far, ruling_near}
+use Rattle.snapshot.specs.Laid.{snap_by}
 use Rattle.local_search.proofs.rules_at.Goals as goal
 
 pub returns-then-word-gt1 : goal.returns-then-word-gt1
 returns-then-word-gt1 c =
-    let A = c.args.area.now in
-    ruling_far (snap_of c.args.words.now A c.args.l) c.args.x c.args.l.modules (distance A) c.args.m.0
-    c.requires.3 c.requires.2 c.word.ensures
+    let A = c.args.db.now.area.now in
+    ruling_far (snap_by c.args.db.now.records A) c.args.x c.args.db.now.records.layout.modules (distance A) c.args.m.0
+    c.requires.2 c.requires.1 c.word.ensures
     c.if-word-gt1.true c.nothing.ensures
 
 pub returns : goal.returns
 returns c =
-    let A = c.args.area.now in
-    ruling_near (snap_of c.args.words.now A c.args.l) c.args.x c.args.l.modules (distance A) c.args.m.0
+    let A = c.args.db.now.area.now in
+    ruling_near (snap_by c.args.db.now.records A) c.args.x c.args.db.now.records.layout.modules (distance A) c.args.m.0
     c.module_rules.ensures

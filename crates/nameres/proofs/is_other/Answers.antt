@@ -1,10 +1,10 @@
 use mathlib.Core.Path.{sym, ap, ap₂, ◌∙◌}
 use mathlib.Core.Bool.{not}
 use Rattle.snapshot.specs.Records.{scope_at}
-use Rattle.snapshot.specs.Layouts.{snap_of}
 use Rattle.hir_def.specs.Items.{item_of, same_item, module_item}
 use Rattle.hir_def.specs.Entries.{entry_of}
 use Rattle.hir_def.specs.Nameres.{is_other}
+use Rattle.snapshot.specs.Laid.{snap_by}
 use Rattle.nameres.proofs.is_other.Goals as goal
 
 pub returns-in_default : goal.returns-in_default
@@ -12,7 +12,7 @@ unfolding is_other
 returns-in_default c =
     λ A.
     (
-    sym (ap (λ e. is_other (snap_of c.args.words.now A c.args.l) c.args.m.0 (entry_of scope_at c.args.words.now e))
+    sym (ap (λ e. is_other (snap_by c.args.records.now A) c.args.m.0 (entry_of scope_at c.args.records.now.words.now e))
     c.in_default.is))
 
 pub returns : goal.returns
@@ -20,8 +20,8 @@ unfolding is_other
 returns c =
     λ A.
     (
-    let i = c.item_of-item.ensures A ∙ ap₂ (λ n d. item_of (snap_of c.args.words.now A c.args.l) n d)
+    let i = c.item_of-item.ensures A ∙ ap₂ (λ n d. item_of (snap_by c.args.records.now A) n d)
     c.scope_ns.ensures c.scope_definition.ensures in
     ap not (c.same_item.ensures ∙ ap (λ x. same_item x (module_item c.args.m.0)) i)
-    ∙ sym (ap (λ e. is_other (snap_of c.args.words.now A c.args.l) c.args.m.0 (entry_of scope_at c.args.words.now e))
+    ∙ sym (ap (λ e. is_other (snap_by c.args.records.now A) c.args.m.0 (entry_of scope_at c.args.records.now.words.now e))
     c.in-Some.is))

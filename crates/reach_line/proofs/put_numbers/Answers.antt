@@ -2,7 +2,7 @@ use Prim.Native.Nat.{◌+◌}
 use mathlib.Core.Path.{refl, ◌∙◌}
 use native.Mathlib.Omega.{arith}
 use Rattle.printing.proofs.Laws.{put_as, put_two, put_none}
-use Rattle.reach_line.proofs.Laws.{rest_one, rest_length, rest_next, rest_done}
+use Rattle.reach_line.proofs.Laws.{rest_one, rest_length, rest_slice, rest_done}
 use Rattle.reach_line.proofs.put_numbers.Goals as goal
 
 pub loop-n-init : goal.loop-n-init
@@ -33,7 +33,7 @@ loop-n-preserved c =
     let z = rest_length c.args.numbers.now in (
       omega arith,
       c.put_number-to-in-loop-n.auto.out ∙ c.put-at.auto.out ∙ l.invariant.1,
-      put_as (rest_next c.args.numbers.now l.n-index (omega arith) refl)
+      put_as (rest_slice c.args.numbers.now l.n-index (omega arith) refl)
           (put_two l.invariant.2 (put_two c.put-at.ensures c.put_number-to-in-loop-n.ensures.put)),
       omega (arith, l.invariant.3, c.put-at.ensures.next, c.put_number-to-in-loop-n.ensures.upper_bound),
     )

@@ -1,9 +1,9 @@
 use mathlib.Core.Path.{sym, ap, ap₂, ◌∙◌}
 use Rattle.snapshot.specs.Records.{scope_at}
-use Rattle.snapshot.specs.Layouts.{snap_of}
 use Rattle.hir_def.specs.Items.{item_of, same_item}
 use Rattle.hir_def.specs.Entries.{entry_of}
 use Rattle.find_path.specs.Rules.{same_here}
+use Rattle.snapshot.specs.Laid.{snap_by}
 use Rattle.rule_lookups.proofs.same_here.Goals as goal
 
 pub returns-in_default : goal.returns-in_default
@@ -11,17 +11,17 @@ unfolding same_here
 returns-in_default c =
     λ A x.
     (
-    let n = snap_of c.args.words.now A c.args.l in
-    sym (ap (λ e. same_here n x c.args.item (entry_of scope_at c.args.words.now e)) c.in_default.is))
+    let n = snap_by c.args.records.now A in
+    sym (ap (λ e. same_here n x c.args.item (entry_of scope_at c.args.records.now.words.now e)) c.in_default.is))
 
 pub returns : goal.returns
 unfolding same_here
 returns c =
     λ A x.
     (
-    let n = snap_of c.args.words.now A c.args.l in
+    let n = snap_by c.args.records.now A in
     let i = c.item_of-its.ensures A ∙ ap₂ (item_of n) c.scope_ns.ensures
     c.scope_definition.ensures in
     c.same_item.ensures ∙ ap (λ y. same_item y c.args.item) i
-    ∙ sym (ap (λ e. same_here n x c.args.item (entry_of scope_at c.args.words.now e))
+    ∙ sym (ap (λ e. same_here n x c.args.item (entry_of scope_at c.args.records.now.words.now e))
     c.in-Some.is))

@@ -5,9 +5,9 @@ use Rattle.walk_once.proofs.locations.Goals as goal
 
 pub is_on-requires : goal.is_on-requires
 is_on-requires c =
-    (chain_wider c.args.area.now _ _ c.args.s.top _ (omega (arith, c.requires.3)) c.requires.4, c.requires.5)
+    chain_wider c.args.area.now _ _ c.args.s.top _ (omega (arith, c.requires.3)) c.requires.4
 
 pub returns : goal.returns
 returns c =
-    gathered_copy c.args.words.now c.args.area.now c.args.l c.args.from.0 c.args.s c.args.item
-    c.requires.6 _ c.word-n.ensures c.copy_walk.ensures (c.is_on.ensures c.if-is_on.false)
+    gathered_copy c.args.records.now.words.now c.args.area.now c.args.records.now.layout c.args.from.0 c.args.s c.args.sought.item
+    c.requires.5 _ c.word-n.ensures c.copy_walk.ensures (c.is_on.ensures c.if-is_on.false)

@@ -13,27 +13,16 @@ returns-then-out-lt-LIMIT c =
     let s = c.args in
     lined_none s.words.now s.area.now s.question s.out.now c.clear_front.new.area c.if-out-lt-LIMIT.true c.clear_front.ensures
 
-pub returns-then-area-lt-AREA : goal.returns-then-area-lt-AREA
-returns-then-area-lt-AREA c =
+pub returns-in_default : goal.returns-in_default
+returns-in_default c =
     let s = c.args in
     lined_small s.words.now s.area.now s.question s.out.now c.if-out-lt-LIMIT.false
-    _ _ c.if-area-lt-AREA.true
+    _ _ c.in_default.ensures.cases
     (λ u from. put_as (ap (λ n. line_in u from (refused n) ++ bytes_of "\n") c.number.ensures.same) (c.put_refusal.ensures u from))
-
-pub slice_bounds-line_within-end-2 : goal.slice_bounds-line_within-end-2
-slice_bounds-line_within-end-2 c = sym (length-take-le area_limit c.args.area.now
-    c.if-area-lt-AREA.false)
-
-pub line_within-requires : goal.line_within-requires
-line_within-requires c = (
-  length-take-le area_limit c.args.area.now
-      c.if-area-lt-AREA.false,
-  c.if-out-lt-LIMIT.false,
-)
 
 pub returns : goal.returns
 returns c =
     let s = c.args in
     lined_large s.words.now s.area.now s.question s.out.now
     c.if-out-lt-LIMIT.false _ _ c.line_within.new.area
-    c.if-area-lt-AREA.false c.line_within.ensures.area_after c.line_within.ensures.put
+    c.in-Some.ensures.cases.enough c.line_within.ensures.area_after c.line_within.ensures.put

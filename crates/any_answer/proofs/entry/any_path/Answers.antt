@@ -5,21 +5,13 @@ use Rattle.snapshot.specs.Limits.{area_limit}
 use Rattle.any_answer.proofs.Laws.{answers_small, answers_large}
 use Rattle.any_answer.proofs.entry.any_path.Goals as goal
 
-pub returns-then-area-lt-AREA : goal.returns-then-area-lt-AREA
-returns-then-area-lt-AREA c =
+pub returns-in_default : goal.returns-in_default
+returns-in_default c =
     let s = c.args in
-    answers_small s.words.now s.area.now s.ns s.definition s.from c.if-area-lt-AREA.true c.refused.ensures
-
-pub slice_bounds-any_within-end-2 : goal.slice_bounds-any_within-end-2
-slice_bounds-any_within-end-2 c =
-    sym (length-take-le _ c.args.area.now (omega (arith, c.if-area-lt-AREA.false)))
-
-pub any_within-requires : goal.any_within-requires
-any_within-requires c =
-    length-take-le area_limit c.args.area.now c.if-area-lt-AREA.false
+    answers_small s.words.now s.area.now s.ns s.definition s.from c.in_default.ensures.cases c.refused.ensures
 
 pub returns : goal.returns
 returns c =
     let s = c.args in
-    answers_large s.words.now s.area.now s.ns s.definition s.from c.any_within.new.area c.if-area-lt-AREA.false
+    answers_large s.words.now s.area.now s.ns s.definition s.from c.any_within.new.area c.in-Some.ensures.cases.enough
     c.any_within.ensures.value c.any_within.ensures.area_after

@@ -4,8 +4,7 @@ use Rattle.answer.specs.Answers.{zeros}
 use Rattle.any_answer.proofs.entry.any_within.Goals as goal
 
 pub any_on-r-requires : goal.any_on-r-requires
-any_on-r-requires c =
-    (checks_judged c.args.words.now c.args.area.now _ _ c.requires c.check-c.ensures, c.check-c.auto.area ∙ c.requires)
+any_on-r-requires c = checks_judged c.args.words.now c.args.area.now _ _ c.told-area c.check-c.ensures
 
 pub returns : goal.returns
-returns c = record { value = c.any_on-r.ensures; area_after = c.clear.ensures ∙ ap zeros (c.any_on-r.auto.area ∙ c.check-c.auto.area ∙ c.requires) }
+returns c = record { value = c.any_on-r.ensures; area_after = c.clear.ensures ∙ ap zeros (c.any_on-r.array_long) }

@@ -9,15 +9,15 @@ offer-one-requires c =
 
 pub offer-two-requires : goal.offer-two-requires
 offer-two-requires c =
-    let below = root_below c.args.words.now c.args.area.now c.args.l c.requires.0 c.args.from.0 c.requires.1 in
+    let below = root_below _ _ _ c.requires.0 c.args.from.0 c.requires.1 in
     (c.offer-one.ensures.run, c.requires.0.tables.limited.modules, omega (arith, below, c.crate_root-root.ensures), omega arith, omega arith, omega arith)
 
 pub offer_supers-requires : goal.offer_supers-requires
 offer_supers-requires c =
     let two = grown_then (as_run c.offer-one.ensures) (as_run c.offer-two.ensures) in
-    (stays_reads c.args.words.now c.args.area.now _ c.args.l c.requires.0 two.stays, c.requires.1, c.offer-two.ensures.run)
+    (stays_reads _ _ _ _ c.requires.0 two.stays, c.requires.1, c.offer-two.ensures.run)
 
 pub returns : goal.returns
 returns c =
-    begin_done c.args.words.now c.args.area.now c.args.l c.requires.0 c.args.from.0 _ _ c.module_around-around.ensures.0
+    begin_done _ _ _ c.requires.0 c.args.from.0 _ _ c.module_around-around.ensures.0
     c.crate_root-root.ensures c.offer-one.ensures c.offer-two.ensures c.offer_supers.ensures

@@ -21,12 +21,12 @@ overflow_add-row c =
 
 pub offer-requires : goal.offer-requires
 offer-requires c =
-    let W = c.args.words.now in
+    let W = c.args.records.now.words.now in
     let A = c.args.area.now in
     let limits = c.requires.0.tables.limited in
-    let known = lead_known W A c.args.l c.requires.0 c.args.from.0 c.args.i c.args.n c.args.h _ c.requires.2
+    let known = lead_known _ _ _ c.requires.0 c.args.from.0 c.args.i c.args.n c.args.h _ c.requires.2
     (sym c.leads_on.ensures ∙ c.if-leads_on.true) in
-    let target = c.first_of-target.ensures A ∙ ap (λ (d : ℕ). (definition_of (snap_of W A c.args.l) d).first) c.scope_definition.ensures in (
+    let target = c.first_of-target.ensures A ∙ ap (λ (d : ℕ). (definition_of (snap_of W A c.args.records.now.layout) d).first) c.scope_definition.ensures in (
       c.requires.3,
       limits.modules,
       omega (arith, known, target),
@@ -37,13 +37,13 @@ offer-requires c =
 
 pub returns-then-leads_on : goal.returns-then-leads_on
 returns-then-leads_on c =
-    let W = c.args.words.now in
+    let W = c.args.records.now.words.now in
     let A = c.args.area.now in
-    let target = c.first_of-target.ensures A ∙ ap (λ (d : ℕ). (definition_of (snap_of W A c.args.l) d).first) c.scope_definition.ensures in
-    entry_offered W A c.args.l c.requires.0 c.args.from.0 c.args.i c.args.n c.args.h _ c.word.ensures
+    let target = c.first_of-target.ensures A ∙ ap (λ (d : ℕ). (definition_of (snap_of W A c.args.records.now.layout) d).first) c.scope_definition.ensures in
+    entry_offered _ _ _ c.requires.0 c.args.from.0 c.args.i c.args.n c.args.h _ c.word.ensures
     (sym c.leads_on.ensures ∙ c.if-leads_on.true) target refl c.scope_name-name.ensures c.offer.ensures
 
 pub returns : goal.returns
 returns c =
-    entry_passed c.args.words.now c.args.area.now c.args.l c.requires.0 c.args.from.0 c.args.i c.args.n c.args.h _
+    entry_passed _ _ _ c.requires.0 c.args.from.0 c.args.i c.args.n c.args.h _
     c.requires.3 c.word.ensures (sym c.leads_on.ensures ∙ c.if-leads_on.false)

@@ -2,13 +2,14 @@ use Prim.Native.Nat.{◌+◌, ◌-◌, ◌*◌}
 use lib.Dec.{eqb}
 use Rattle.snapshot.specs.Sizes.{extern_size}
 use Rattle.snapshot.specs.Records.{Extern, extern_at}
-use Rattle.snapshot.specs.Layouts.{extern_base, snap_of}
+use Rattle.snapshot.specs.Layouts.{extern_base}
 use Rattle.tree_rules.specs.Modules.{crate_of}
 use Rattle.nameable.specs.Paths.{extern_named}
 use Rattle.any_path.proofs.Plains.{Trying}
+use Rattle.snapshot.specs.Laid.{snap_by}
 use Rattle.any_path.proofs.firsts.offer_externs.Given as goal
 
 abbrev pub invariant-loop-k : goal.invariant-loop-k
 invariant-loop-k l =
-    Trying extern_named (λ (x : Extern). eqb x.owner (crate_of (snap_of l.words l.initial.area l.l) l.from.0)) (λ j. extern_at l.words
-    (extern_base l.l + extern_size * j)) l.l.externs l.l.modules (snap_of l.words l.initial.area l.l) l.from.0 l.initial.area l.n l.area l.count l.k
+    Trying extern_named (λ (x : Extern). eqb x.owner (crate_of (snap_by l.records l.initial.area) l.from.0)) (λ j. extern_at l.records.words.now
+    (extern_base l.records.layout + extern_size * j)) l.records.layout.externs l.records.layout.modules (snap_by l.records l.initial.area) l.from.0 l.initial.area l.n l.area l.count l.k

@@ -7,19 +7,19 @@ use Rattle.any_path.proofs.firsts.offer_owned.Goals as goal
 
 pub returns-then-owner-c : goal.returns-then-owner-c
 returns-then-owner-c c =
-    let W = c.args.words.now in
+    let W = c.args.records.now.words.now in
     let from = c.args.from.0 in
     let A = c.args.area.now in
-    let L = c.args.l in
+    let L = c.args.records.now.layout in
     let S = snap_of W A L in
     name_passed S from (extern_at W c.args.h).name (ne_eqb _ _ (λ e. c.if-owner-c.true (c.extern_owner-owner.ensures ∙ e))) c.requires.3
 
 pub returns : goal.returns
 returns c =
-    let W = c.args.words.now in
+    let W = c.args.records.now.words.now in
     let from = c.args.from.0 in
     let A = c.args.area.now in
-    let L = c.args.l in
+    let L = c.args.records.now.layout in
     let S = snap_of W A L in
     name_tried S from (extern_at W c.args.h).name (eq-eqb _ _ (sym c.extern_owner-owner.ensures ∙ c.if-owner-c.false)) c.extern_name.ensures
     c.offer_plain.ensures

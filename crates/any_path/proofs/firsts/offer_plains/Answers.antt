@@ -4,24 +4,15 @@ use Rattle.any_path.proofs.firsts.offer_plains.Goals as goal
 
 pub offer_externs-outer-requires : goal.offer_externs-outer-requires
 offer_externs-outer-requires c =
-    let W = c.args.words.now in
-    let A = c.args.area.now in
-    let L = c.args.l in
     let f = c.offer_scopes-near.ensures in
-    (stays_reads W A _ L c.requires.0 f.stays, c.requires.1, f.run)
+    (stays_reads _ _ _ _ c.requires.0 f.stays, c.requires.1, f.run)
 
 pub offer_prelude-requires : goal.offer_prelude-requires
 offer_prelude-requires c =
-    let W = c.args.words.now in
-    let A = c.args.area.now in
-    let L = c.args.l in
     let g = c.offer_externs-outer.ensures in
-    (stays_reads W A _ L c.requires.0 (grown_then c.offer_scopes-near.ensures g).stays, c.requires.1, g.run)
+    (stays_reads _ _ _ _ c.requires.0 (grown_then c.offer_scopes-near.ensures g).stays, c.requires.1, g.run)
 
 pub returns : goal.returns
 returns c =
-    let W = c.args.words.now in
-    let A = c.args.area.now in
-    let L = c.args.l in
     let from = c.args.from.0 in
-    plains_done W A L c.requires.0 from c.args.n c.offer_scopes-near.ensures c.offer_externs-outer.ensures c.offer_prelude.ensures
+    plains_done _ _ _ c.requires.0 from c.args.n c.offer_scopes-near.ensures c.offer_externs-outer.ensures c.offer_prelude.ensures

@@ -1,13 +1,14 @@
 use Prim.Native.Nat.{◌+◌, ◌-◌, ◌*◌}
 use Rattle.snapshot.specs.Sizes.{scope_size}
 use Rattle.snapshot.specs.Records.{scope_at}
-use Rattle.snapshot.specs.Layouts.{scope_base, snap_of}
+use Rattle.snapshot.specs.Layouts.{scope_base}
 use Rattle.hir_def.specs.Items.{types}
 use Rattle.nameable.specs.Paths.{is_seen_in, as_named}
 use Rattle.any_path.proofs.Plains.{Trying}
+use Rattle.snapshot.specs.Laid.{snap_by}
 use Rattle.any_path.proofs.firsts.offer_scope.Given as goal
 
 abbrev pub invariant-loop-k : goal.invariant-loop-k
 invariant-loop-k l =
-    Trying (as_named (snap_of l.words l.initial.area l.l)) (is_seen_in (snap_of l.words l.initial.area l.l) l.from.0 types l.m.0) (λ j. scope_at l.words
-    (scope_base l.l + scope_size * j)) l.l.scopes l.l.modules (snap_of l.words l.initial.area l.l) l.from.0 l.initial.area l.n l.area l.count l.k
+    Trying (as_named (snap_by l.records l.initial.area)) (is_seen_in (snap_by l.records l.initial.area) l.from.0 types l.m.0) (λ j. scope_at l.records.words.now
+    (scope_base l.records.layout + scope_size * j)) l.records.layout.scopes l.records.layout.modules (snap_by l.records l.initial.area) l.from.0 l.initial.area l.n l.area l.count l.k

@@ -3,7 +3,7 @@ use Rattle.any_path.proofs.firsts.offer_scopes.Given as goal
 
 abbrev pub invariant-loop-b : goal.invariant-loop-b
 invariant-loop-b l =
-    Around l.words l.initial.area l.l l.from.0 l.n l.area l.count l.m.0
+    Around l.records.words.now l.initial.area l.records.layout l.from.0 l.n l.area l.count l.m.0
 
 abbrev pub decreases-loop-b : goal.decreases-loop-b
 decreases-loop-b l = l.m.0

@@ -26,12 +26,7 @@ offset_bounds-area-at c =
     record { fits = omega (arith, run_small _ _ _ c.requires.0 c.requires.1) }
 
 pub bounds-area-at : goal.bounds-area-at
-bounds-area-at c =
-    omega (
-      arith,
-      row_space _ _ _ c.args.row.target c.args.row.link c.args.row.name c.requires.0 c.requires.1 c.requires.2 c.requires.3
-          (sym c.is_met.ensures ∙ c.if-is_met.false),
-    )
+bounds-area-at c = omega (arith, row_space c.requires.0 c.requires.1 c.requires.2 (sym c.is_met.ensures ∙ c.if-is_met.false))
 
 pub overflow_cast-area-2 : goal.overflow_cast-area-2
 overflow_cast-area-2 c =
@@ -47,11 +42,7 @@ offset_bounds-area-at-2 c =
 
 pub bounds-area-at-2 : goal.bounds-area-at-2
 bounds-area-at-2 c =
-    simp length-set (omega (
-      arith,
-      row_space _ _ _ c.args.row.target c.args.row.link c.args.row.name c.requires.0 c.requires.1
-          c.requires.2 c.requires.3 (sym c.is_met.ensures ∙ c.if-is_met.false),
-    ))
+    simp length-set (omega (arith, row_space c.requires.0 c.requires.1 c.requires.2 (sym c.is_met.ensures ∙ c.if-is_met.false)))
 
 pub overflow_add-area-2 : goal.overflow_add-area-2
 overflow_add-area-2 c =
@@ -63,11 +54,7 @@ offset_bounds-area-at-3 c =
 
 pub bounds-area-at-3 : goal.bounds-area-at-3
 bounds-area-at-3 c =
-    simp length-set (omega (
-      arith,
-      row_space _ _ _ c.args.row.target c.args.row.link c.args.row.name c.requires.0 c.requires.1
-          c.requires.2 c.requires.3 (sym c.is_met.ensures ∙ c.if-is_met.false),
-    ))
+    simp length-set (omega (arith, row_space c.requires.0 c.requires.1 c.requires.2 (sym c.is_met.ensures ∙ c.if-is_met.false)))
 
 pub overflow_add-area-3 : goal.overflow_add-area-3
 overflow_add-area-3 c =
@@ -79,11 +66,7 @@ offset_bounds-area-at-4 c =
 
 pub bounds-area-at-4 : goal.bounds-area-at-4
 bounds-area-at-4 c =
-    simp length-set (omega (
-      arith,
-      row_space _ _ _ c.args.row.target c.args.row.link c.args.row.name c.requires.0 c.requires.1
-          c.requires.2 c.requires.3 (sym c.is_met.ensures ∙ c.if-is_met.false),
-    ))
+    simp length-set (omega (arith, row_space c.requires.0 c.requires.1 c.requires.2 (sym c.is_met.ensures ∙ c.if-is_met.false)))
 
 pub overflow_add-result : goal.overflow_add-result
 overflow_add-result c =

@@ -5,25 +5,25 @@ use Rattle.any_path.proofs.run.expand_all.Goals as goal
 
 pub loop-i-init : goal.loop-i-init
 loop-i-init c =
-    spreading_start c.args.words.now c.args.area.now c.args.l c.requires.0 c.args.from.0 c.args.n c.requires.2
+    spreading_start _ _ _ c.requires.0 c.args.from.0 c.args.n c.requires.2
 
 pub expand-count-requires : goal.expand-count-requires
 expand-count-requires c =
     let g = c.loop-i.invariant.grown in (
-      stays_reads c.args.words.now c.args.area.now c.loop-i.area c.args.l c.requires.0 g.stays,
+      stays_reads _ _ c.loop-i.area _ c.requires.0 g.stays,
       c.requires.1,
       g.run,
       omega (arith, c.loop-i-test.true, g.more),
-      old_meant c.args.words.now c.args.area.now c.args.l c.requires.0 c.args.from.0 c.args.n c.requires.3
+      old_meant _ _ _ c.requires.0 c.args.from.0 c.args.n c.requires.3
           c.loop-i-test.true g,
     )
 
 pub loop-i-preserved : goal.loop-i-preserved
 loop-i-preserved c =
-    spreading_next c.args.words.now c.args.area.now c.args.l c.requires.0 c.args.from.0 c.args.n c.loop-i.invariant
+    spreading_next _ _ _ c.requires.0 c.args.from.0 c.args.n c.loop-i.invariant
     c.loop-i-test.true c.expand-count.ensures
 
 pub returns : goal.returns
 returns c =
-    spreading_done c.args.words.now c.args.area.now c.args.l c.requires.0 c.args.from.0 c.args.n c.loop-i.invariant
+    spreading_done _ _ _ c.requires.0 c.args.from.0 c.args.n c.loop-i.invariant
     (omega (arith, c.loop-i-test.false))

@@ -6,16 +6,16 @@ use Rattle.any_path.proofs.run.run_keywords.Goals as goal
 pub expand_all-near-requires : goal.expand_all-near-requires
 expand_all-near-requires c =
     let f = c.begin-start.ensures in (
-      stays_reads c.args.words.now c.args.area.now _ c.args.l c.requires.0 f.stays,
+      stays_reads _ _ _ _ c.requires.0 f.stays,
       c.requires.1,
       f.run,
       first_meant
-          c.args.words.now c.args.area.now c.args.l c.requires.0 c.args.from.0 false f,
+          _ _ _ c.requires.0 c.args.from.0 false f,
     )
 
 pub offer_absolutes-all-requires : goal.offer_absolutes-all-requires
 offer_absolutes-all-requires c = (
-  near_reads c.args.words.now c.args.area.now c.args.l c.requires.0 c.args.from.0 false c.begin-start.ensures
+  near_reads _ _ _ c.requires.0 c.args.from.0 false c.begin-start.ensures
       c.expand_all-near.ensures,
   c.requires.1,
   c.expand_all-near.ensures.run,
@@ -26,15 +26,15 @@ take_up-requires c =
     let f = c.begin-start.ensures in
     let g = c.expand_all-near.ensures in
     let h = c.offer_absolutes-all.ensures in (
-      all_reads c.args.words.now c.args.area.now c.args.l c.requires.0 c.args.from.0 false f g h,
+      all_reads _ _ _ c.requires.0 c.args.from.0 false f g h,
       c.requires.1,
       h.run,
       all_meant
-          c.args.words.now c.args.area.now c.args.l c.requires.0 c.args.from.0 false f g h,
+          _ _ _ c.requires.0 c.args.from.0 false f g h,
     )
 
 pub returns : goal.returns
 returns c =
-    run_done c.args.words.now c.args.area.now c.args.l c.requires.0 c.args.from.0 false c.begin-start.ensures
+    run_done _ _ _ c.requires.0 c.args.from.0 false c.begin-start.ensures
     c.expand_all-near.ensures
     c.offer_absolutes-all.ensures c.take_up.ensures

@@ -6,17 +6,17 @@ use Rattle.any_path.proofs.run.take_up.Goals as goal
 
 pub loop-i-init : goal.loop-i-init
 loop-i-init c =
-    queueing_start c.args.words.now c.args.area.now c.args.l c.requires.0 c.args.from.0 c.args.n c.args.start
+    queueing_start _ _ _ c.requires.0 c.args.from.0 c.args.n c.args.start
     c.requires.2 c.requires.3
 
 pub expand-count-requires : goal.expand-count-requires
 expand-count-requires c =
     let g = c.loop-i.invariant.grown in (
-      stays_reads c.args.words.now c.args.area.now c.loop-i.area c.args.l c.requires.0 g.stays,
+      stays_reads _ _ c.loop-i.area _ c.requires.0 g.stays,
       c.requires.1,
       g.run,
       c.loop-i-test.true,
-      row_meant c.args.words.now c.args.area.now c.args.l c.requires.0 c.args.from.0 c.args.n c.loop-i.invariant.meant
+      row_meant _ _ _ c.requires.0 c.args.from.0 c.args.n c.loop-i.invariant.meant
           c.loop-i-test.true g,
     )
 
@@ -35,10 +35,10 @@ loop-i-smaller c =
 
 pub loop-i-preserved : goal.loop-i-preserved
 loop-i-preserved c =
-    queueing_next c.args.words.now c.args.area.now c.args.l c.requires.0 c.args.from.0 c.args.n c.args.start
+    queueing_next _ _ _ c.requires.0 c.args.from.0 c.args.n c.args.start
     c.loop-i.invariant c.loop-i-test.true c.expand-count.ensures
 
 pub returns : goal.returns
 returns c =
-    queueing_done c.args.words.now c.args.area.now c.args.l c.requires.0 c.args.from.0 c.args.n c.args.start
+    queueing_done _ _ _ c.requires.0 c.args.from.0 c.args.n c.args.start
     c.loop-i.invariant (omega (arith, c.loop-i-test.false))

@@ -3,7 +3,7 @@ use Rattle.any_path.proofs.Runs.{Queueing}
 use Rattle.any_path.proofs.run.take_up.Given as goal
 
 abbrev pub invariant-loop-i : goal.invariant-loop-i
-invariant-loop-i l = Queueing l.words l.initial.area l.l l.from.0 l.start l.n l.area l.count l.i
+invariant-loop-i l = Queueing l.records.words.now l.initial.area l.records.layout l.from.0 l.start l.n l.area l.count l.i
 
 abbrev pub decreases-loop-i : goal.decreases-loop-i
-decreases-loop-i l = l.l.modules - l.i
+decreases-loop-i l = l.records.layout.modules - l.i

@@ -1,18 +1,18 @@
 use Rattle.std.proofs.Common.{rules}
-use Rattle.snapshot.specs.Layouts.{snap_of}
 use Rattle.hir_def.specs.Items.{defined_item}
 use Rattle.hir_def.proofs.Searches.{step_less, outwards}
 use Rattle.nameable.specs.Paths.{scopes_from}
 use Rattle.seen_entries.proofs.Laws.{step_down}
 use Rattle.arrivals.specs.Steps.{plain_in}
+use Rattle.accept.specs.Opened.{snap_in}
 use Rattle.arrivals.proofs.plain.plain_around.Goals as goal
 
 pub nearest-requires-clause-falls : goal.nearest-requires-clause-falls
-nearest-requires-clause-falls c = λ m b i p. step_less (step_down c.requires.0) c.requires.1 i (search rules)
+nearest-requires-clause-falls c = λ m b i p. step_less (step_down c.args.db.now.reads) c.requires i (search rules)
 
 pub returns : goal.returns
 unfolding scopes_from
 returns c =
-    let S = snap_of c.args.words.now c.args.area.now c.args.l in
+    let S = snap_in c.args.db.now in
     c.nearest.ensures _ (plain_in S c.args.from.0 (defined_item c.args.ns.0 c.args.d.0)) _
-    (outwards (step_down c.requires.0) c.requires.1 (λ m e i p. search rules) (λ m o i p. search rules))
+    (outwards (step_down c.args.db.now.reads) c.requires (λ m e i p. search rules) (λ m o i p. search rules))

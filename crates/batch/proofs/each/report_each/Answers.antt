@@ -9,7 +9,7 @@ use Rattle.batch.proofs.each.report_each.Goals as goal
 
 pub loop-i-init : goal.loop-i-init
 loop-i-init c =
-    (omega arith, c.requires.0, c.requires.1, refl, none_reported c.args.words.now c.args.questions.now c.args.reports.now)
+    (omega arith, c.requires.0, c.told-area, refl, none_reported c.args.words.now c.args.questions.now c.args.reports.now)
 
 pub loop-i-preserved : goal.loop-i-preserved
 loop-i-preserved c =
@@ -18,10 +18,10 @@ loop-i-preserved c =
     c.write_report.auto.out in (
       omega (arith, c.loop-i-test.true),
       c.report_on-r.ensures.checked,
-      c.report_on-r.auto.area ∙ l.invariant.2,
+      c.report_on-r.array_long,
       k ∙ l.invariant.3,
       one_more_lem c.args.words.now c.args.questions.now c.args.reports.now l.i l.reports l.invariant.4 _ _
-          c.question_of.ensures c.report_on-r.ensures.report l.invariant.3 (omega (arith, c.loop-i-test.true, c.requires.2))
+          c.question_of.ensures c.report_on-r.ensures.report l.invariant.3 (omega (arith, c.loop-i-test.true, c.requires.1))
           _ _ c.write_report.ensures c.write_report.auto.out,
     )
 

@@ -1,11 +1,17 @@
+use Rattle.hir_def.proofs.Fits.{few_words}
 use Rattle.checked.proofs.Laws.{reads_of}
 use Rattle.checked.proofs.Putting.{few_names, line_refused, line_accepted}
 use Rattle.checked.proofs.lines.line_on.Goals as goal
 
+pub invariant_of-records : goal.invariant_of-records
+invariant_of-records c = record { fits = few_words _ _ _ (reads_of c.args.words.now c.report_on-r.new.area c.args.c c.report_on-r.ensures.checked _ c.in-Ok.is) }
+
+pub invariant_of-db : goal.invariant_of-db
+invariant_of-db c = record { reads = reads_of c.args.words.now c.report_on-r.new.area c.args.c c.report_on-r.ensures.checked _ c.in-Ok.is }
+
 pub put_line-requires : goal.put_line-requires
 put_line-requires c = (
-  reads_of c.args.words.now c.report_on-r.new.area c.args.c c.report_on-r.ensures.checked _ c.in-Ok.is,
-  c.requires.2,
+  c.requires.1,
   few_names c.args.words.now c.args.question c.report_on-r.new.area c.args.c c.report_on-r.result c.report_on-r.ensures,
 )
 

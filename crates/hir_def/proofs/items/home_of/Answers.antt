@@ -13,5 +13,5 @@ unfolding home_of
 returns-in-Def c =
     λ A.
     let x = c.definition_head.ensures A in
-    c.home_at.ensures A ∙ ap₂ (home_by (snap_of c.args.words.now A c.args.l)) x.kind x.first
+    c.home_at.ensures A ∙ ap₂ (home_by (snap_of c.args.records.now.words.now A c.args.records.now.layout)) x.kind x.first
     ∙ sym (ap (home_of _) c.in-Def.is)

@@ -10,11 +10,11 @@ pub returns-then-ns-eq : goal.returns-then-ns-eq
 returns-then-ns-eq c =
     λ A.
     item_module _ _ _ (c.definition_head-h.ensures A).kind
-    (ap (λ b. eqb c.args.ns 0 && b) (sym (kind_is Module _ c.eq.ensures c.definition_kind.ensures)) ∙ c.if-ns-eq.true)
+    (ap (λ b. eqb c.args.ns 0 && b) (sym (kind_is Module _ c.eq.ensures c.known_definition_kind.ensures)) ∙ c.if-ns-eq.true)
     (c.definition_first.ensures ∙ (c.definition_head-h.ensures A).first)
 
 pub returns : goal.returns
 returns c =
     λ A.
     item_other _ _ _ (c.definition_head-h.ensures A).kind
-    (ap (λ b. eqb c.args.ns 0 && b) (sym (kind_is Module _ c.eq.ensures c.definition_kind.ensures)) ∙ c.if-ns-eq.false)
+    (ap (λ b. eqb c.args.ns 0 && b) (sym (kind_is Module _ c.eq.ensures c.known_definition_kind.ensures)) ∙ c.if-ns-eq.false)

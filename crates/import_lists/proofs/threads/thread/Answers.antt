@@ -15,8 +15,8 @@ thread_entries-requires c =
     let t = (
     entries_required c.requires c.gather-n.ensures
     c.sort.ensures c.clear.ensures
-    c.area-3-1.given) in
-    record { area_len = t.0; by_index = t.1 }
+    c.clear.auto.area) in
+    record { area_len = t.0.1; by_index = t.1 }
 
 pub thread_members-requires : goal.thread_members-requires
 thread_members-requires c =
@@ -24,9 +24,9 @@ thread_members-requires c =
     members_required c.requires
     c.gather-n.ensures
     c.sort.ensures
-    c.clear.ensures c.area-3-1.given
+    c.clear.ensures c.clear.auto.area
     c.thread_entries.ensures) in
-    record { area_len = t.0; by_index = t.1 }
+    record { area_len = (t.0.1, t.0.2); by_index = t.1 }
 
 pub returns : goal.returns
 returns c = threaded_all
@@ -34,5 +34,5 @@ returns c = threaded_all
     c.gather-n.ensures
     c.sort.ensures
     c.clear.ensures
-    c.area-3-1.given
+    c.clear.auto.area
     c.thread_entries.ensures c.thread_members.ensures

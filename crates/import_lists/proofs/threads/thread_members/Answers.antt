@@ -25,5 +25,5 @@ loop-j-preserved c =
 
 pub returns : goal.returns
 returns c =
-    let e : c.loop-j.j ≡ c.args.l.members = omega arith in
+    let e : c.loop-j.j ≡ c.args.records.now.layout.members = omega arith in
     threads_key _ (rw e at c.loop-j.invariant.1) (λ i h. rw c.member_base-base.ensures)

@@ -1,23 +1,17 @@
 use mathlib.Core.Path.{refl}
 use native.Mathlib.Omega.{arith}
 use lib.ListN.{length-set}
-use Rattle.import_lists.proofs.Walks.{few_words, turn_mark, turn_old, new_threaded, new_room, turn_new}
+use Rattle.import_lists.proofs.Walks.{few_words, turn_mark, turn_place, turn_old, new_threaded, new_room, turn_new}
 use Rattle.import_lists.proofs.walk.visit.Goals as goal
 
 pub overflow_add-mark : goal.overflow_add-mark
-overflow_add-mark c =
-    let h = turn_mark c.args.top c.requires c.pile_base.ensures c.word-m.ensures in
-    omega (arith, few_words c.requires.threaded.ready, c.marks_base.ensures)
+overflow_add-mark c = omega (arith, turn_place c.args.top c.requires c.pile_base.ensures c.word-m.ensures c.marks_base.ensures)
 
 pub offset_bounds-area-mark : goal.offset_bounds-area-mark
-offset_bounds-area-mark c =
-    let h = turn_mark c.args.top c.requires c.pile_base.ensures c.word-m.ensures in
-    omega (arith, few_words c.requires.threaded.ready, c.marks_base.ensures, c.requires.threaded.ready.size)
+offset_bounds-area-mark c = omega (arith, turn_place c.args.top c.requires c.pile_base.ensures c.word-m.ensures c.marks_base.ensures)
 
 pub bounds-area-mark : goal.bounds-area-mark
-bounds-area-mark c =
-    let h = turn_mark c.args.top c.requires c.pile_base.ensures c.word-m.ensures in
-    omega (arith, few_words c.requires.threaded.ready, c.marks_base.ensures, c.requires.threaded.ready.size)
+bounds-area-mark c = omega (arith, turn_place c.args.top c.requires c.pile_base.ensures c.word-m.ensures c.marks_base.ensures)
 
 pub returns-then-area-mark-ne0 : goal.returns-then-area-mark-ne0
 returns-then-area-mark-ne0 c =
@@ -25,19 +19,13 @@ returns-then-area-mark-ne0 c =
     c.marks_base.ensures c.if-area-mark-ne0.true
 
 pub offset_bounds-area-mark-2 : goal.offset_bounds-area-mark-2
-offset_bounds-area-mark-2 c =
-    let h = turn_mark c.args.top c.requires c.pile_base.ensures c.word-m.ensures in
-    omega (arith, few_words c.requires.threaded.ready, c.marks_base.ensures, c.requires.threaded.ready.size)
+offset_bounds-area-mark-2 c = omega (arith, turn_place c.args.top c.requires c.pile_base.ensures c.word-m.ensures c.marks_base.ensures)
 
 pub bounds-area-mark-2 : goal.bounds-area-mark-2
-bounds-area-mark-2 c =
-    let h = turn_mark c.args.top c.requires c.pile_base.ensures c.word-m.ensures in
-    omega (arith, few_words c.requires.threaded.ready, c.marks_base.ensures, c.requires.threaded.ready.size)
+bounds-area-mark-2 c = omega (arith, turn_place c.args.top c.requires c.pile_base.ensures c.word-m.ensures c.marks_base.ensures)
 
 pub overflow_cast-area : goal.overflow_cast-area
-overflow_cast-area c =
-    let h = turn_mark c.args.top c.requires c.pile_base.ensures c.word-m.ensures in
-    omega (arith, few_words c.requires.threaded.ready, c.marks_base.ensures, c.requires.threaded.ready.size)
+overflow_cast-area c = omega (arith, turn_mark c.args.top c.requires c.pile_base.ensures c.word-m.ensures)
 
 pub bounds-area-order_base : goal.bounds-area-order_base
 bounds-area-order_base c =

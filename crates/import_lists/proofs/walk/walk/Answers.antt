@@ -18,18 +18,8 @@ clear-requires c = omega (
   c.requires.0.ready.size,
 )
 
-pub own-requires : goal.own-requires
-own-requires c = (
-  cleared_reads c.requires.0 c.marks_base-base.ensures c.clear.ensures,
-  c.requires.1,
-)
-
-pub root-first-requires : goal.root-first-requires
-root-first-requires c = (
-  cleared_reads c.requires.0 c.marks_base-base.ensures
-      c.clear.ensures,
-  c.own.ensures.1,
-)
+pub invariant_of-db : goal.invariant_of-db
+invariant_of-db c = record { reads = cleared_reads c.requires.0 c.marks_base-base.ensures c.clear.ensures }
 
 pub overflow_cast-area : goal.overflow_cast-area
 overflow_cast-area c =

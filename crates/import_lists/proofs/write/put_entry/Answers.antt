@@ -1,19 +1,19 @@
 use mathlib.Core.Path.{sym, ap}
 use mathlib.Core.List.{[], ◌∷◌}
 use Rattle.snapshot.specs.Records.{scope_at}
-use Rattle.snapshot.specs.Layouts.{snap_of}
 use Rattle.import_lists.proofs.Writing.{space_first, space_rest, space_as, wrote_as, wrote_both, entry_same_import, bounded_as, entry_bounded}
 use Rattle.import_lists.proofs.Writing.{imports_entry}
+use Rattle.accept.specs.Opened.{snap_in}
 use Rattle.import_lists.proofs.write.put_entry.Goals as goal
 
 pub put_members-t-requires : goal.put_members-t-requires
-put_members-t-requires c = let e = scope_at c.args.words.now c.args.entry in
-    record { listed = c.requires.listed; space = space_first c.requires.space (imports_entry (snap_of c.args.words.now c.args.area.now c.args.l) c.args.c.0 e) }
+put_members-t-requires c = let e = scope_at c.args.db.now.records.words.now c.args.entry in
+    record { listed = c.requires.listed; space = space_first c.requires.space (imports_entry (snap_in c.args.db.now) c.args.c.0 e) }
 
 pub put_import-requires : goal.put_import-requires
 put_import-requires c =
-    let e = scope_at c.args.words.now c.args.entry in
-    let p = imports_entry (snap_of c.args.words.now c.args.area.now c.args.l) c.args.c.0 e in
+    let e = scope_at c.args.db.now.records.words.now c.args.entry in
+    let p = imports_entry (snap_in c.args.db.now) c.args.c.0 e in
     let q = entry_same_import c.args.c.0 e c.scope_ns-ns.ensures
     c.scope_definition-d.ensures
     c.scope_name-name.ensures c.scope_owner-m.ensures c.scope_bits-bits.ensures in
@@ -21,8 +21,8 @@ put_import-requires c =
 
 pub returns : goal.returns
 returns c =
-    let e = scope_at c.args.words.now c.args.entry in
-    let p = imports_entry (snap_of c.args.words.now c.args.area.now c.args.l) c.args.c.0 e in
+    let e = scope_at c.args.db.now.records.words.now c.args.entry in
+    let p = imports_entry (snap_in c.args.db.now) c.args.c.0 e in
     let q = entry_same_import c.args.c.0 e c.scope_ns-ns.ensures
     c.scope_definition-d.ensures
     c.scope_name-name.ensures c.scope_owner-m.ensures c.scope_bits-bits.ensures in

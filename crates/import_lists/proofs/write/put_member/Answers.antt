@@ -19,7 +19,7 @@ put_import-requires c =
     let e = scope_at W c.args.entry in
     let x = member_at W c.args.member in
     let q = member_same_import c.args.c.0 e x refl c.scope_ns.ensures
-    (c.member_ns-ns.ensures _ c.member_kind-kind.ensures) c.member_definition-d.ensures
+    (c.member_ns-ns.ensures _ c.known_member_kind-kind.ensures) c.member_definition-d.ensures
     c.member_name-name.ensures
     c.scope_owner-m.ensures c.member_bits-bits.ensures in
     let v : c.eq.result ≡ eqb (member_at W c.args.member).kind 3 = search rules in
@@ -32,7 +32,7 @@ returns c =
     let e = scope_at W c.args.entry in
     let x = member_at W c.args.member in
     let q = member_same_import c.args.c.0 e x refl c.scope_ns.ensures
-    (c.member_ns-ns.ensures _ c.member_kind-kind.ensures) c.member_definition-d.ensures
+    (c.member_ns-ns.ensures _ c.known_member_kind-kind.ensures) c.member_definition-d.ensures
     c.member_name-name.ensures
     c.scope_owner-m.ensures c.member_bits-bits.ensures in
     let v : c.eq.result ≡ eqb (member_at W c.args.member).kind 3 = search rules in

@@ -13,7 +13,7 @@ loop-k-init c =
 
 pub put_member-t-requires : goal.put_member-t-requires
 put_member-t-requires c = let some : 0 < c.loop-k.k = omega (arith, c.loop-k-test.true) in
-    let at = ap (λ b. b + 5 * (c.args.l.members - c.loop-k.k)) c.member_base-base.ensures in record {
+    let at = ap (λ b. b + 5 * (c.args.db.now.records.layout.members - c.loop-k.k)) c.member_base-base.ensures in record {
       bounded = member_bounded c.requires.listed c.loop-k.invariant.0 some at;
       space = space_first c.loop-k.invariant.1.space
           (kept_next c.requires.listed c.loop-k.invariant.0 some at refl).0;
@@ -22,13 +22,13 @@ put_member-t-requires c = let some : 0 < c.loop-k.k = omega (arith, c.loop-k-tes
 pub loop-k-smaller : goal.loop-k-smaller
 loop-k-smaller c =
     let some : 0 < c.loop-k.k = omega (arith, c.loop-k-test.true) in
-    let at = ap (λ b. b + 5 * (c.args.l.members - c.loop-k.k)) c.member_base-base.ensures in
+    let at = ap (λ b. b + 5 * (c.args.db.now.records.layout.members - c.loop-k.k)) c.member_base-base.ensures in
     (kept_next c.requires.listed c.loop-k.invariant.0 some at c.word-k-in-loop-k.ensures).1
 
 pub loop-k-preserved : goal.loop-k-preserved
 loop-k-preserved c =
     let some : 0 < c.loop-k.k = omega (arith, c.loop-k-test.true) in
-    let at = ap (λ b. b + 5 * (c.args.l.members - c.loop-k.k)) c.member_base-base.ensures in
+    let at = ap (λ b. b + 5 * (c.args.db.now.records.layout.members - c.loop-k.k)) c.member_base-base.ensures in
     let q = kept_next c.requires.listed c.loop-k.invariant.0 some at c.word-k-in-loop-k.ensures in
     let h = q.1 in
     (omega arith, going_next c.loop-k.invariant.1 q.0 c.put_member-t.ensures)
@@ -36,5 +36,5 @@ loop-k-preserved c =
 pub returns : goal.returns
 returns c =
     let q = kept_first c.requires.listed c.scope_definition-d.ensures c.word-k.ensures in
-    wrote_as (going_done c.loop-k.invariant.1 (kept_end c.args.words.now c.args.l c.args.c.0
-    (scope_at c.args.words.now c.args.entry) c.loop-k.k c.loop-k-test.false)) q.0
+    wrote_as (going_done c.loop-k.invariant.1 (kept_end c.args.db.now.records.words.now c.args.db.now.records.layout c.args.c.0
+    (scope_at c.args.db.now.records.words.now c.args.entry) c.loop-k.k c.loop-k-test.false)) q.0

@@ -32,5 +32,5 @@ loop-k-preserved c =
 pub returns : goal.returns
 returns c =
     let q = imports_first c.requires.threaded.0 c.args.c.0 c.requires.threaded.2 c.word-k.ensures in
-    let z = imports_end c.args.words.now c.args.area.now c.args.l c.args.n c.args.c.0 c.loop-k.k c.loop-k-test.false in
+    let z = imports_end c.args.db.now.records.words.now c.args.db.now.area.now c.args.db.now.records.layout c.args.n c.args.c.0 c.loop-k.k c.loop-k-test.false in
     wrote_as (going_done c.loop-k.invariant.1 z) q.0

@@ -9,15 +9,15 @@ use Rattle.import_lists.proofs.write.put_modules.Goals as goal
 pub loop-i-init : goal.loop-i-init
 loop-i-init c =
     let a = c.args in
-    (omega arith, going_start (space_as c.requires.space (over_first a.words.now a.area.now a.l a.c.0 a.order)))
+    (omega arith, going_start (space_as c.requires.space (over_first a.db.now.records.words.now a.db.now.area.now a.db.now.records.layout a.c.0 a.order)))
 
 pub put_module-t-requires : goal.put_module-t-requires
 put_module-t-requires c = let a = c.args in
     let i = c.loop-i.i in
     let t = c.loop-i-test.true in
-    let e = c.word.ensures ∙ ap (λ b. get_or a.area.now (b + i) 0) c.order_base-base.ensures in
-    let q = over_next a.words.now a.area.now a.l a.c.0 a.order i t e in
-    let h = order_known a.area.now a.l a.order c.requires.threaded.3 i t e in
+    let e = c.word.ensures ∙ ap (λ b. get_or a.db.now.area.now (b + i) 0) c.order_base-base.ensures in
+    let q = over_next a.db.now.records.words.now a.db.now.area.now a.db.now.records.layout a.c.0 a.order i t e in
+    let h = order_known a.db.now.area.now a.db.now.records.layout a.order c.requires.threaded.3 i t e in
     let m = c.requires.threaded.0.ready.reads.tables.limited.modules in
     record { threaded = (c.requires.threaded.0, c.requires.threaded.1, omega arith); space = space_first c.loop-i.invariant.1.space q }
 
@@ -26,12 +26,12 @@ loop-i-preserved c =
     let a = c.args in
     let i = c.loop-i.i in
     let t = c.loop-i-test.true in
-    let e = c.word.ensures ∙ ap (λ b. get_or a.area.now (b + i) 0) c.order_base-base.ensures in
-    let q = over_next a.words.now a.area.now a.l a.c.0 a.order i t e in
+    let e = c.word.ensures ∙ ap (λ b. get_or a.db.now.area.now (b + i) 0) c.order_base-base.ensures in
+    let q = over_next a.db.now.records.words.now a.db.now.area.now a.db.now.records.layout a.c.0 a.order i t e in
     (omega arith, going_next c.loop-i.invariant.1 q c.put_module-t.ensures)
 
 pub returns : goal.returns
 returns c =
     let a = c.args in
-    let z = over_end a.words.now a.area.now a.l a.c.0 a.order c.loop-i.i c.loop-i-test.false in
-    wrote_as (going_done c.loop-i.invariant.1 z) (sym (over_first a.words.now a.area.now a.l a.c.0 a.order))
+    let z = over_end a.db.now.records.words.now a.db.now.area.now a.db.now.records.layout a.c.0 a.order c.loop-i.i c.loop-i-test.false in
+    wrote_as (going_done c.loop-i.invariant.1 z) (sym (over_first a.db.now.records.words.now a.db.now.area.now a.db.now.records.layout a.c.0 a.order))

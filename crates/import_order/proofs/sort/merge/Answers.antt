@@ -7,9 +7,8 @@ use Rattle.import_order.proofs.sort.merge.Goals as goal
 pub loop-i-init : goal.loop-i-init
 loop-i-init c = merging_start _ _ _ _ _ _
 
-pub second_first-requires : goal.second_first-requires
-second_first-requires c =
-    (runs_ready (copied_ready c.requires.0 c.copy.ensures) c.loop-i.invariant.frame (omega arith)).reads
+pub invariant_of-db : goal.invariant_of-db
+invariant_of-db c = record { reads = (runs_ready (copied_ready c.requires.0 c.copy.ensures) c.loop-i.invariant.frame (omega arith)).reads }
 
 pub loop-i-preserved-then-second_first : goal.loop-i-preserved-then-second_first
 loop-i-preserved-then-second_first c =

@@ -6,6 +6,5 @@ pub returns : goal.returns
 returns c = record {
   lists = c.list_checked-r.ensures;
   area_after = c.clear.ensures
-      ∙ ap zeros (c.area-1.given
-      ∙ c.requires);
+      ∙ ap zeros c.list_checked-r.array_long;
 }

@@ -13,7 +13,7 @@ use Rattle.item_records.proofs.definitions.again.Goals as goal
 
 pub returns-in-Some-Module : goal.returns-in-Some-Module
 returns-in-Some-Module c h =
-    let e = definition_known _ (sym c.definition_kind.ensures ∙ c.in-Some-Module.is)
+    let e = definition_known _ (sym c.known_definition_kind.ensures ∙ c.in-Some-Module.is)
     ∙ ap definition_kind_number c.in-Some-Module.field-0-is in
     and_yes (rw e)
     (ap (λ x. not (eqb x 0)) (c.word.ensures ∙ ap (λ f. get_or c.args.area.now (module_marks + f) 0) c.definition_first-mark.ensures)

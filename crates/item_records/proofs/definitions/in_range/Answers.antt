@@ -9,6 +9,6 @@ use Rattle.item_records.proofs.definitions.in_range.Goals as goal
 
 pub returns : goal.returns
 returns c =
-    let t = c.is_some.ensures ∙ ap is_some c.definition_kind-kind.ensures ∙ definition_there _ in
+    let t = c.is_some.ensures ∙ ap is_some c.known_definition_kind-kind.ensures ∙ definition_there _ in
     let v : c.eq.result ≡ eqb (definition_at c.args.words.now c.args.at).kind 2 = search rules in
     rw (t, v, c.definition_second-second.ensures, c.builtin_named-builtin.ensures)

@@ -5,20 +5,17 @@ use Rattle.join_numbers.proofs.Parts.{part_of_lem}
 use Rattle.join.proofs.Laws.{first_not, first_done}
 use Rattle.join.proofs.join.join_checked.Goals as goal
 
-pub returns-in_err-l : goal.returns-in_err-l
-returns-in_err-l c =
+pub returns-in_err-layout : goal.returns-in_err-layout
+returns-in_err-layout c =
     let p = err_from_is_err_and c.from_residual.result c.from_residual.ensures.1 in
     rw (p.1, p.2) (first_not c.args.first.now c.args.second.now c.args.target.now
-    (refused_verdict c.args.first.now c.args.area.now _ _ c.requires c.in_err-l.ensures _ refl))
+    (refused_verdict c.args.first.now c.args.area.now _ _ c.told-area c.in_err-layout.ensures _ refl))
 
 pub join_second-requires : goal.join_second-requires
-join_second-requires c = (
-  c.check.auto.area ∙ c.requires,
-  part_of_lem c.args.first.now _ _
-      (accepted_reads c.args.first.now c.args.area.now c.check.new.area _ c.requires c.in_ok-l.ensures _ refl),
-)
+join_second-requires c = part_of_lem c.args.first.now _ _
+    (accepted_reads c.args.first.now c.args.area.now c.check.new.area _ c.told-area c.in_ok-layout.ensures _ refl)
 
 pub returns : goal.returns
 returns c =
     first_done c.args.first.now c.args.second.now c.args.target.now
-    (accepted_reads c.args.first.now c.args.area.now c.check.new.area _ c.requires c.in_ok-l.ensures _ refl) c.join_second.ensures
+    (accepted_reads c.args.first.now c.args.area.now c.check.new.area _ c.told-area c.in_ok-layout.ensures _ refl) c.join_second.ensures

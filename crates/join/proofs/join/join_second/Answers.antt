@@ -5,22 +5,22 @@ use Rattle.checked.proofs.Laws.{refused_verdict, accepted_reads}
 use Rattle.join.proofs.Laws.{second_not, second_done}
 use Rattle.join.proofs.join.join_second.Goals as goal
 
-pub returns-in_err-m : goal.returns-in_err-m
-returns-in_err-m c =
+pub returns-in_err-layout : goal.returns-in_err-layout
+returns-in_err-layout c =
     let p = err_from_is_err_and c.from_residual.result c.from_residual.ensures.1 in
-    rw (p.1, p.2) (second_not c.args.first.now c.args.second.now c.args.target.now
-    (refused_verdict c.args.second.now c.args.area.now _ _ c.requires.0 c.in_err-m.ensures _ refl))
+    rw (p.1, p.2) (second_not c.args.first.now.words.now c.args.second.now c.args.target.now
+    (refused_verdict c.args.second.now c.args.area.now _ _ c.told-area c.in_err-layout.ensures _ refl))
 
 pub join_accepted-requires : goal.join_accepted-requires
 join_accepted-requires c =
-    let z = c.check.auto.area ∙ c.requires.0 in
+    let z = c.check.auto.area ∙ c.told-area in
     record {
-      first = c.requires.1;
-      second = accepted_reads c.args.second.now c.args.area.now c.check.new.area _ c.requires.0 c.in_ok-m.ensures _ refl;
+      first = c.requires;
+      second = accepted_reads c.args.second.now c.args.area.now c.check.new.area _ c.told-area c.in_ok-layout.ensures _ refl;
       room = omega arith;
     }
 
 pub returns : goal.returns
 returns c =
-    second_done c.args.first.now c.args.second.now c.args.target.now
-    (accepted_reads c.args.second.now c.args.area.now c.check.new.area _ c.requires.0 c.in_ok-m.ensures _ refl) c.join_accepted.ensures
+    second_done c.args.first.now.words.now c.args.second.now c.args.target.now
+    (accepted_reads c.args.second.now c.args.area.now c.check.new.area _ c.told-area c.in_ok-layout.ensures _ refl) c.join_accepted.ensures

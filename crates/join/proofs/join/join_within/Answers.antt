@@ -6,5 +6,5 @@ pub returns : goal.returns
 returns c = record {
   joins = c.join_checked-r.ensures;
   area_after = c.clear.ensures
-      ∙ ap zeros (c.area-1.given ∙ c.requires);
+      ∙ ap zeros (c.join_checked-r.array_long);
 }

@@ -7,4 +7,4 @@ use Rattle.join_numbers.proofs.places.is_named.Goals as goal
 
 pub returns : goal.returns
 returns c =
-    ap₂ (λ x y. x && eqb c.args.name y) (kind_is Builtin _ c.eq-builtin.ensures c.definition_kind.ensures) c.definition_first.ensures
+    ap₂ (λ x y. x && eqb c.args.name y) (kind_is Builtin _ c.eq-builtin.ensures c.known_definition_kind.ensures) c.definition_first.ensures

@@ -5,5 +5,5 @@ use Rattle.join_numbers.proofs.Filling.{Numbering}
 use Rattle.join_numbers.proofs.tables.number_names.Given as goal
 
 abbrev pub invariant-loop-n : goal.invariant-loop-n
-invariant-loop-n l = Numbering same_name no_name (part_of l.first).names (part_of l.second).names
+invariant-loop-n l = Numbering same_name no_name (part_of l.parts.first.words.now).names (part_of l.parts.second.words.now).names
     name_table l.initial.area l.area l.n l.fresh

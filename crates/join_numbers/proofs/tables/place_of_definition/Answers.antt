@@ -1,6 +1,5 @@
 use Prim.Native.Nat.{◌+◌, ◌*◌}
 use mathlib.Core.Path.{refl, ◌∙◌, ap}
-use native.Mathlib.Omega.{arith}
 use Rattle.snapshot.specs.DefinitionKinds.{definition_kind_of}
 use Rattle.snapshot.specs.Sizes.{definition_size}
 use Rattle.snapshot.specs.Records.{definition_at}
@@ -14,23 +13,17 @@ pub returns-then-ne : goal.returns-then-ne
 returns-then-ne c =
     let a = c.args in
     let b = c.definition_base.ensures in
-    let k = c.definition_kind.ensures ∙ ap (λ j. definition_kind_of (definition_at a.second.now (j + definition_size * a.d.0)).kind) b in
-    other_place a.first.now a.second.now a.area.now a.l1 a.l2 c.requires.ready.0
-    (definition_at a.second.now (definition_base a.l2 + definition_size * a.d.0)) refl (kind_not Builtin _ c.ne.ensures k c.if-ne.true)
-
-pub overflow_add-definition_first : goal.overflow_add-definition_first
-overflow_add-definition_first c =
-    let f = c.definition_first.ensures in
-    let d = c.args.d.0 in
-    omega (arith, c.type_inv.second (c.definition_base.result + definition_size * d + 1))
+    let k = c.known_definition_kind.ensures ∙ ap (λ j. definition_kind_of (definition_at a.parts.now.second.words.now (j + definition_size * a.d.0)).kind) b in
+    other_place a.parts.now.first.words.now a.parts.now.second.words.now a.area.now a.parts.now.first.layout a.parts.now.second.layout c.requires.ready.0
+    (definition_at a.parts.now.second.words.now (definition_base a.parts.now.second.layout + definition_size * a.d.0)) refl (kind_not Builtin _ c.ne.ensures k c.if-ne.true)
 
 pub returns : goal.returns
 returns c =
     let a = c.args in
     let b = c.definition_base.ensures in
-    let k = c.definition_kind.ensures
-    ∙ ap (λ j. definition_kind_of (definition_at a.second.now (j + definition_size * a.d.0)).kind) b in
-    let f = c.definition_first.ensures ∙ ap (λ j. (definition_at a.second.now (j + definition_size * a.d.0)).first) b in
-    builtin_place a.first.now a.second.now a.area.now a.l1 a.l2 c.requires.ready.0 a.d.0 c.requires.holds
-    c.requires.ready.1 refl (kind_so Builtin _ c.ne.ensures k c.if-ne.false) f c.word-name.ensures
+    let k = c.known_definition_kind.ensures
+    ∙ ap (λ j. definition_kind_of (definition_at a.parts.now.second.words.now (j + definition_size * a.d.0)).kind) b in
+    let f = c.definition_first.ensures ∙ ap (λ j. (definition_at a.parts.now.second.words.now (j + definition_size * a.d.0)).first) b in
+    builtin_place a.parts.now.first.words.now a.parts.now.second.words.now a.area.now a.parts.now.first.layout a.parts.now.second.layout c.requires.ready.0 a.d.0 c.requires.holds
+    c.requires.ready.1 refl (kind_so Builtin _ c.ne.ensures k c.if-ne.false) f c.field-name.ensures
     c.place_of_builtin.ensures

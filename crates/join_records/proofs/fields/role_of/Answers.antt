@@ -1,7 +1,7 @@
 use mathlib.Core.Path.{sym, ap, ◌∙◌}
 use Rattle.snapshot.proofs.KindLaws.{kind_known}
 use Rattle.join_records.specs.Moves.{role_of}
-use Rattle.join_records.proofs.Roles.{role_far, role_none, role_read}
+use Rattle.join_records.proofs.Roles.{role_far, role_none, role_given}
 use Rattle.join_records.proofs.fields.role_of.Goals as goal
 
 pub returns-in_default : goal.returns-in_default
@@ -9,7 +9,7 @@ returns-in_default c = role_none _ _ (sym c.of.ensures ∙ c.in_default.is)
 
 pub returns : goal.returns
 returns c =
-    role_read _ _ _ _ c.roles-all.ensures.0 c.roles-all.ensures.1 c.if-i-ge8.false
+    role_given _ _ _ _ c.roles-all.ensures.0 c.roles-all.ensures.1 c.if-i-ge8.false
     ∙ ap (λ k. role_of k c.args.i) (sym (kind_known _ (sym c.of.ensures ∙ c.in-Some.is)))
 
 pub returns-then-i-ge8 : goal.returns-then-i-ge8

@@ -6,15 +6,15 @@ use Rattle.join_records.proofs.write.put_kept.Goals as goal
 
 pub returns-then-not-is_kept : goal.returns-then-not-is_kept
 returns-then-not-is_kept c =
-    wrote_none (kept_not c.args.area.now c.args.l c.args.words.now c.args.at c.args.n c.is_kept.ensures
+    wrote_none (kept_not c.args.second.now.area.now c.args.second.now.first c.args.second.now.words.now c.args.at c.args.n c.is_kept.ensures
     (ap not c.if-not-is_kept.true))
 
 pub put_record-requires : goal.put_record-requires
 put_record-requires c =
-    space_as c.requires (sym (kept_is c.args.area.now c.args.l c.args.words.now c.args.at c.args.n
+    space_as c.requires (sym (kept_is c.args.second.now.area.now c.args.second.now.first c.args.second.now.words.now c.args.at c.args.n
     c.is_kept.ensures (ap not c.if-not-is_kept.false)))
 
 pub returns : goal.returns
 returns c =
-    wrote_as c.put_record.ensures (kept_is c.args.area.now c.args.l c.args.words.now c.args.at
+    wrote_as c.put_record.ensures (kept_is c.args.second.now.area.now c.args.second.now.first c.args.second.now.words.now c.args.at
     c.args.n c.is_kept.ensures (ap not c.if-not-is_kept.false))

@@ -5,7 +5,7 @@ use Rattle.join_records.proofs.write.put_moved.Goals as goal
 
 pub loop-at-init : goal.loop-at-init
 loop-at-init c =
-    walking_start c.args.write c.args.area.now c.args.l c.args.words.now c.args.to c.args.target.now
+    walking_start c.args.write c.args.second.now.area.now c.args.second.now.first c.args.second.now.words.now c.args.to c.args.target.now
     c.args.from c.args.end
 
 pub put_kept-t-requires : goal.put_kept-t-requires
@@ -16,7 +16,7 @@ pub overflow_add-at-in-loop-at : goal.overflow_add-at-in-loop-at
 overflow_add-at-in-loop-at c =
     let e = c.requires.0 in
     let h = c.loop-at-test.true in
-    let k = arguments_few c.args.words.now c.loop-at.at _ c.arguments.ensures in
+    let k = arguments_few c.args.second.now.words.now c.loop-at.at _ c.arguments.ensures in
     omega arith
 
 pub loop-at-preserved : goal.loop-at-preserved

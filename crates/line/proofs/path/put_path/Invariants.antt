@@ -4,10 +4,10 @@ use lib.ListN.{length}
 use Rattle.line.proofs.Laws.{tail_to}
 use Rattle.find_path.specs.Line.{written_of}
 use Rattle.printing.specs.Output.{Put}
-use Rattle.snapshot.specs.Layouts.{snap_of}
+use Rattle.accept.specs.Opened.{snap_in}
 use Rattle.line.proofs.path.put_path.Given as goal
 
 abbrev pub invariant-loop-i : goal.invariant-loop-i
 invariant-loop-i l =
-    (l.i ≤ length l.names) × (length l.out ≡ length l.initial.out) × Put l.initial.out l.initial.to (tail_to (written_of (snap_of l.words l.area l.l) l.edition) l.leading l.names l.i) l.out l.to
+    (l.i ≤ length l.names) × (length l.out ≡ length l.initial.out) × Put l.initial.out l.initial.to (tail_to (written_of (snap_in l.db) l.edition) l.leading l.names l.i) l.out l.to
     × (l.to ≤ l.initial.to + 257 * l.i)

@@ -5,7 +5,7 @@ use Rattle.local_levels.proofs.levels.push_module.Goals as goal
 
 pub visited-requires : goal.visited-requires
 visited-requires c =
-    (chain_wider c.args.area.now _ _ c.args.s.top _ (omega (arith, c.requires.0.space)) c.requires.0.chain, c.requires.1)
+    chain_wider c.args.area.now _ _ c.args.s.top _ (omega (arith, c.requires.0.space)) c.requires.0.chain
 
 pub returns-then-visited : goal.returns-then-visited
 returns-then-visited c =
@@ -20,11 +20,11 @@ bounds-area-s c =
     omega (
       arith,
       c.requires.0.space,
-      push_place c.args.area.now _ _ c.args.item _ c.requires.0 c.requires.2
+      push_place c.args.area.now _ _ c.args.sought.item _ c.requires.0 c.requires.1
           c.has.ensures c.if-has.false,
     )
 
 pub returns : goal.returns
 returns c =
-    push_new c.args.area.now _ _ _ _ c.requires.0 _ c.requires.2 c.visited.ensures c.if-visited.false
+    push_new c.args.area.now _ _ _ _ c.requires.0 _ c.requires.1 c.visited.ensures c.if-visited.false
     c.has.ensures c.if-has.false refl

@@ -7,56 +7,53 @@ use Rattle.local_levels.proofs.locations.find_local_import_locations.Goals as go
 pub push_children-children-requires : goal.push_children-children-requires
 push_children-children-requires c = (
   c.requires.0,
-  ready_start c.args.words.now c.args.area.now c.args.l c.args.from.0 c.args.s c.args.item
+  ready_start c.args.records.now.words.now c.args.area.now c.args.records.now.layout c.args.from.0 c.args.s c.args.sought.item
       c.requires.0 c.requires.2 c.requires.3 c.requires.4,
-  c.requires.5,
 )
 
 pub push_containers-n-requires : goal.push_containers-n-requires
 push_containers-n-requires c = (
-  reads_children c.args.words.now c.args.area.now c.args.l c.args.from.0 c.args.s c.args.item
+  reads_children c.args.records.now.words.now c.args.area.now c.args.records.now.layout c.args.from.0 c.args.s c.args.sought.item
       c.requires.0 c.requires.2 c.requires.3 c.requires.4 _ _ c.push_children-children.ensures c.push_children-children.auto.area,
   c.requires.1,
-  ready_children c.args.words.now c.args.area.now c.args.l c.args.from.0 c.args.s c.args.item
+  ready_children c.args.records.now.words.now c.args.area.now c.args.records.now.layout c.args.from.0 c.args.s c.args.sought.item
       c.requires.0 c.requires.2 c.requires.3 c.requires.4 _ _ c.push_children-children.ensures c.push_children-children.auto.area,
-  c.requires.5,
 )
 
 pub loop-k-init : goal.loop-k-init
 loop-k-init c =
-    walking_start c.args.words.now _ c.args.l _ _ _ _ (ready_begun c.args.words.now c.args.area.now c.args.l
-    c.args.from.0 c.args.s c.args.item c.requires.0 c.requires.2 c.requires.3 c.requires.4 _ _ c.push_children-children.ensures
+    walking_start c.args.records.now.words.now _ c.args.records.now.layout _ _ _ _ (ready_begun c.args.records.now.words.now c.args.area.now c.args.records.now.layout
+    c.args.from.0 c.args.s c.args.sought.item c.requires.0 c.requires.2 c.requires.3 c.requires.4 _ _ c.push_children-children.ensures
     c.push_children-children.auto.area _ _ c.push_containers-n.ensures c.push_containers-n.auto.area)
 
 pub push_next-n-requires : goal.push_next-n-requires
 push_next-n-requires c = (
-  walking_reads c.args.words.now _ c.args.l c.args.from.0 c.args.s c.args.item _
-      (reads_begun c.args.words.now c.args.area.now c.args.l c.args.from.0 c.args.s c.args.item
+  walking_reads c.args.records.now.words.now _ c.args.records.now.layout c.args.from.0 c.args.s c.args.sought.item _
+      (reads_begun c.args.records.now.words.now c.args.area.now c.args.records.now.layout c.args.from.0 c.args.s c.args.sought.item
       c.requires.0 c.requires.2 c.requires.3 c.requires.4 _ _ c.push_children-children.ensures c.push_children-children.auto.area _ _
       c.push_containers-n.ensures c.push_containers-n.auto.area) c.loop-k.area c.loop-k.n c.loop-k.k c.loop-k.invariant,
   c.requires.1,
   c.loop-k.invariant.ready,
   c.requires.5,
-  c.requires.6,
-  chains_at c.args.words.now c.args.area.now c.loop-k.area
-      c.args.l c.args.s.top c.requires.0 c.requires.6 (c.loop-k.invariant.below ∙ c.push_containers-n.ensures.below
-      ∙ c.push_children-children.ensures.below) c.requires.7,
+  chains_at c.args.records.now.words.now c.args.area.now c.loop-k.area
+      c.args.records.now.layout c.args.s.top c.requires.0 c.requires.5 (c.loop-k.invariant.below ∙ c.push_containers-n.ensures.below
+      ∙ c.push_children-children.ensures.below) c.requires.6,
 )
 
 pub loop-k-preserved : goal.loop-k-preserved
 loop-k-preserved c =
-    walking_next c.args.words.now _ c.args.l c.args.from.0 c.args.s c.args.item _
-    (reads_begun c.args.words.now c.args.area.now c.args.l c.args.from.0 c.args.s c.args.item
+    walking_next c.args.records.now.words.now _ c.args.records.now.layout c.args.from.0 c.args.s c.args.sought.item _
+    (reads_begun c.args.records.now.words.now c.args.area.now c.args.records.now.layout c.args.from.0 c.args.s c.args.sought.item
     c.requires.0 c.requires.2 c.requires.3 c.requires.4 _ _ c.push_children-children.ensures c.push_children-children.auto.area _ _
     c.push_containers-n.ensures c.push_containers-n.auto.area) c.loop-k.area c.loop-k.n c.loop-k.k c.loop-k.invariant _ _
     c.loop-k-test.true c.word.ensures c.push_next-n.ensures c.push_next-n.auto.area
 
 pub returns : goal.returns
 returns c =
-    gathered c.args.words.now _ c.args.l c.args.from.0 c.args.s c.args.item _
-    (reads_begun c.args.words.now c.args.area.now c.args.l c.args.from.0 c.args.s c.args.item
+    gathered c.args.records.now.words.now _ c.args.records.now.layout c.args.from.0 c.args.s c.args.sought.item _
+    (reads_begun c.args.records.now.words.now c.args.area.now c.args.records.now.layout c.args.from.0 c.args.s c.args.sought.item
     c.requires.0 c.requires.2 c.requires.3 c.requires.4 _ _ c.push_children-children.ensures c.push_children-children.auto.area _ _
     c.push_containers-n.ensures c.push_containers-n.auto.area) c.loop-k.area c.loop-k.n c.loop-k.k c.loop-k.invariant
-    c.args.area.now c.requires.0 c.requires.4 (begun c.args.words.now c.args.area.now c.args.l
-    c.args.from.0 c.args.s c.args.item c.requires.0 c.requires.2 c.requires.3 c.requires.4 _ _ c.push_children-children.ensures
+    c.args.area.now c.requires.0 c.requires.4 (begun c.args.records.now.words.now c.args.area.now c.args.records.now.layout
+    c.args.from.0 c.args.s c.args.sought.item c.requires.0 c.requires.2 c.requires.3 c.requires.4 _ _ c.push_children-children.ensures
     c.push_children-children.auto.area _ _ c.push_containers-n.ensures c.push_containers-n.auto.area) c.loop-k-test.false

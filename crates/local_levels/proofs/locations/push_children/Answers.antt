@@ -1,58 +1,36 @@
 use mathlib.Core.Path.{refl}
 use native.Mathlib.Omega.{arith}
-use Rattle.hir_def.proofs.Fits.{few_words}
 use Rattle.local_levels.proofs.Stacks.{pushing_start, pushing_skip, pushing_next, pushing_done}
 use Rattle.local_levels.proofs.Nexts.{children_start, child_hit, child_miss, child_end, child_below}
 use Rattle.local_levels.proofs.locations.push_children.Goals as goal
 use Rattle.local_levels.proofs.locations.push_children.Goals.{then-owner-from, else-owner-from}
 
-pub child_base-base-requires : goal.child_base-base-requires
-child_base-base-requires c =
-    few_words c.args.words.now c.args.area.now _ c.requires.0
-
 pub loop-k-init : goal.loop-k-init
 loop-k-init c =
-    pushing_skip _ _ _ _ _ (pushing_start c.args.area.now _ _ c.args.item _ c.requires.1)
-    (children_start c.args.words.now c.args.area.now c.args.l c.args.from.0) refl refl
-
-pub overflow_mul-h : goal.overflow_mul-h
-overflow_mul-h c =
-    record { fits = omega (arith, c.loop-k-test.true, few_words c.args.words.now c.args.area.now c.args.l c.requires.0) }
-
-pub overflow_add-h : goal.overflow_add-h
-overflow_add-h c =
-    record {
-      fits = omega (
-        arith,
-        c.loop-k-test.true,
-        c.child_base-base.ensures,
-        few_words c.args.words.now c.args.area.now
-            c.args.l c.requires.0,
-      );
-    }
+    pushing_skip _ _ _ _ _ (pushing_start c.args.area.now _ _ c.args.sought.item _ c.requires.1)
+    (children_start c.args.records.now.words.now c.args.area.now c.args.records.now.layout c.args.from.0) refl refl
 
 pub push_module-run-requires : goal.push_module-run-requires
 push_module-run-requires c =
     let l = c.loop-k in (
       l.invariant.ready,
-      c.requires.2,
-      child_below c.args.words.now c.args.area.now c.args.l c.requires.0 c.loop-k-test.true
+      child_below c.args.records.now.words.now c.args.area.now c.args.records.now.layout c.requires.0 c.loop-k-test.true
           c.child_base-base.ensures c.child_child-m.ensures,
     )
 
 pub loop-k-preserved : goal.loop-k-preserved
 loop-k-preserved c =
     let l = c.loop-k in
-    let W = c.args.words.now in
+    let W = c.args.records.now.words.now in
     elim c.if-owner-from.branch [
-      | then-owner-from w ↦ pushing_skip _ _ _ _ _ (pushing_next _ _ _ _ _ l.invariant (child_hit W c.args.l c.args.from.0 l.k c.loop-k-test.true
+      | then-owner-from w ↦ pushing_skip _ _ _ _ _ (pushing_next _ _ _ _ _ l.invariant (child_hit W c.args.records.now.layout c.args.from.0 l.k c.loop-k-test.true
           c.child_base-base.ensures c.child_owner-owner.ensures w.if-owner-from.true w.child_child-m.ensures)
           w.push_module-run.ensures w.push_module-run.auto.area) refl w.area-is w.run-is
-      | else-owner-from w ↦ pushing_skip _ _ _ _ _ l.invariant (child_miss W c.args.l c.args.from.0 l.k c.loop-k-test.true
+      | else-owner-from w ↦ pushing_skip _ _ _ _ _ l.invariant (child_miss W c.args.records.now.layout c.args.from.0 l.k c.loop-k-test.true
           c.child_base-base.ensures c.child_owner-owner.ensures w.if-owner-from.false) w.area-is w.run-is
     ]
 
 pub returns : goal.returns
 returns c =
     let l = c.loop-k in
-    pushing_done _ _ _ _ _ l.invariant (child_end c.args.words.now c.args.l c.args.from.0 l.k (omega (arith, c.loop-k-test.false)))
+    pushing_done _ _ _ _ _ l.invariant (child_end c.args.records.now.words.now c.args.records.now.layout c.args.from.0 l.k (omega (arith, c.loop-k-test.false)))

@@ -7,5 +7,5 @@ use Rattle.local_levels.proofs.locations.push_children.Given as goal
 
 abbrev pub invariant-loop-k : goal.invariant-loop-k
 invariant-loop-k l =
-    Pushing l.initial.area l.s l.n l.item (map (λ c. c.child) (children_of (snap_of l.words l.initial.area l.fn.l) l.from.0))
-    l.area l.run (children_from l.words l.fn.l l.from.0 l.k)
+    Pushing l.initial.area l.s l.n l.sought.item (map (λ c. c.child) (children_of (snap_of l.records.words.now l.initial.area l.fn.records.layout) l.from.0))
+    l.area l.run (children_from l.records.words.now l.fn.records.layout l.from.0 l.k)

@@ -16,8 +16,8 @@ use Rattle.local_levels.proofs.locations.push_next.Goals.{then-leads, else-leads
 
 pub loop-next-init : goal.loop-next-init
 loop-next-init c = (
-  pushing_skip _ _ _ _ _ (pushing_start c.args.area.now _ _ c.args.item _ c.requires.2)
-      (leads_start c.args.words.now c.args.area.now c.args.l c.args.from.0 c.args.m.0) refl refl,
+  pushing_skip _ _ _ _ _ (pushing_start c.args.area.now _ _ c.args.sought.item _ c.requires.2)
+      (leads_start c.args.records.now.words.now c.args.area.now c.args.records.now.layout c.args.from.0 c.args.m.0) refl refl,
   omega arith,
   λ h. absurd (omega arith),
 )
@@ -25,46 +25,43 @@ loop-next-init c = (
 pub modules_from-requires : goal.modules_from-requires
 modules_from-requires c =
     let l = c.loop-next in
-    let W = c.args.words.now in
+    let W = c.args.records.now.words.now in
     let A = c.args.area.now in (
-      accepted_sized W A c.args.l c.requires.0,
+      accepted_sized W A c.args.records.now.layout c.requires.0,
       l.invariant.1,
       l.invariant.2,
-      chains_at W A l.area c.args.l c.args.s.top
-          c.requires.0 c.requires.4 l.invariant.0.below c.requires.5,
+      chains_at W A l.area c.args.records.now.layout c.args.s.top
+          c.requires.0 c.requires.3 l.invariant.0.below c.requires.4,
     )
 
-pub first_of-requires : goal.first_of-requires
-first_of-requires c =
-    few_words c.args.words.now c.args.area.now c.args.l c.requires.0
+pub invariant_of-db : goal.invariant_of-db
+invariant_of-db c =
+    record { reads = reads_at _ _ _ _ c.args.s.top c.requires.0 c.requires.2.tables c.loop-next.invariant.0.below }
 
 pub leads-requires : goal.leads-requires
 leads-requires c =
-    let l = c.loop-next in
-    let W = c.args.words.now in
+    let W = c.args.records.now.words.now in
     let A = c.args.area.now in
     let x = next_record (c.modules_from.ensures A) c.in-Some.is in
-    let t = c.first_of.ensures A ∙ ap (λ y. (definition_of (snap_of W A c.args.l) y).first) c.scope_definition.ensures in (
-      reads_at W A l.area c.args.l c.args.s.top c.requires.0 c.requires.2.tables l.invariant.0.below,
+    let t = c.first_of.ensures A ∙ ap (λ y. (definition_of (snap_of W A c.args.records.now.layout) y).first) c.scope_definition.ensures in (
       c.requires.1,
       leads_below
-          W A c.args.l c.args.from.0 c.args.m.0 x c.requires.0 t,
-      (module_meets W A c.args.l c.requires.0 x).inside,
+          W A c.args.records.now.layout c.args.from.0 c.args.m.0 x c.requires.0 t,
+      (module_meets W A c.args.records.now.layout c.requires.0 x).inside,
     )
 
 pub push_module-run-requires : goal.push_module-run-requires
 push_module-run-requires c =
     let l = c.loop-next in
-    let W = c.args.words.now in
+    let W = c.args.records.now.words.now in
     let A = c.args.area.now in
     let x = next_record (c.modules_from.ensures A) c.in-Some.is in
-    let t = c.first_of.ensures A ∙ ap (λ y. (definition_of (snap_of W A c.args.l) y).first) c.scope_definition.ensures in (
+    let t = c.first_of.ensures A ∙ ap (λ y. (definition_of (snap_of W A c.args.records.now.layout) y).first) c.scope_definition.ensures in (
       l.invariant.0.ready,
-      c.requires.3,
       omega (
         arith,
         c.requires.0.tables.limited.modules,
-        leads_below W A c.args.l c.args.from.0
+        leads_below W A c.args.records.now.layout c.args.from.0
             c.args.m.0 x c.requires.0 t,
       ),
     )
@@ -72,15 +69,15 @@ push_module-run-requires c =
 pub overflow_add-k : goal.overflow_add-k
 overflow_add-k c =
     let l = c.loop-next in
-    let W = c.args.words.now in
+    let W = c.args.records.now.words.now in
     let A = c.args.area.now in
     let x = next_record (c.modules_from.ensures A) c.in-Some.is in
-    record { fits = omega (arith, x.below, few_words W A c.args.l c.requires.0) }
+    record { fits = omega (arith, x.below, few_words W A c.args.records.now.layout c.requires.0) }
 
 pub loop-next-smaller : goal.loop-next-smaller
 loop-next-smaller c =
     let l = c.loop-next in
-    let W = c.args.words.now in
+    let W = c.args.records.now.words.now in
     let A = c.args.area.now in
     let x = next_record (c.modules_from.ensures A) c.in-Some.is in
     omega (arith, x.below, x.from)
@@ -88,18 +85,18 @@ loop-next-smaller c =
 pub loop-next-preserved : goal.loop-next-preserved
 loop-next-preserved c =
     let l = c.loop-next in
-    let W = c.args.words.now in
+    let W = c.args.records.now.words.now in
     let A = c.args.area.now in
     let x = next_record (c.modules_from.ensures A) c.in-Some.is in
-    let t = c.first_of.ensures A ∙ ap (λ y. (definition_of (snap_of W A c.args.l) y).first) c.scope_definition.ensures in
+    let t = c.first_of.ensures A ∙ ap (λ y. (definition_of (snap_of W A c.args.records.now.layout) y).first) c.scope_definition.ensures in
     let q = c.leads.ensures ∙ ap (λ y. eqb (crate_of y c.first_of.result) (crate_of y c.args.from.0) && sees y
-    c.args.from.0 (scope_at W c.in-Some.next.head)) (snap_at W A l.area c.args.l c.args.s.top c.requires.0
+    c.args.from.0 (scope_at W c.in-Some.next.head)) (snap_at W A l.area c.args.records.now.layout c.args.s.top c.requires.0
     c.requires.2.tables l.invariant.0.below) in
-    let k = leads_follow W A c.args.l c.args.from.0 c.args.m.0 x in (
+    let k = leads_follow W A c.args.records.now.layout c.args.from.0 c.args.m.0 x in (
       elim c.if-leads.branch [
-        | then-leads w ↦ pushing_skip _ _ _ _ _ (pushing_next _ _ _ _ _ l.invariant.0 (leads_hit W A c.args.l c.args.from.0
+        | then-leads w ↦ pushing_skip _ _ _ _ _ (pushing_next _ _ _ _ _ l.invariant.0 (leads_hit W A c.args.records.now.layout c.args.from.0
             c.args.m.0 x t q w.if-leads.true) w.push_module-run.ensures w.push_module-run.auto.area) refl w.area-is w.run-is
-        | else-leads w ↦ pushing_skip _ _ _ _ _ l.invariant.0 (leads_miss W A c.args.l c.args.from.0 c.args.m.0 x t q w.if-leads.false)
+        | else-leads w ↦ pushing_skip _ _ _ _ _ l.invariant.0 (leads_miss W A c.args.records.now.layout c.args.from.0 c.args.m.0 x t q w.if-leads.false)
             w.area-is w.run-is
       ],
       omega (arith, x.below),
@@ -109,5 +106,5 @@ loop-next-preserved c =
 pub returns : goal.returns
 returns c =
     let A = c.args.area.now in
-    pushing_done _ _ _ _ _ c.loop-next.invariant.0 (leads_end c.args.words.now A c.args.l c.args.from.0
+    pushing_done _ _ _ _ _ c.loop-next.invariant.0 (leads_end c.args.records.now.words.now A c.args.records.now.layout c.args.from.0
     c.args.m.0 (next_none (c.modules_from.ensures A) c.in_default.is))

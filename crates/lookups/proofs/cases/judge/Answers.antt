@@ -1,5 +1,5 @@
 use Rattle.lookups.proofs.Laws.{reads}
 use Rattle.lookups.proofs.cases.judge.Goals as goal
 
-pub run_queries-requires : goal.run_queries-requires
-run_queries-requires g c = reads _ _ _ _ _ c.in-Ok.is c.check.ensures
+pub invariant_of-db : goal.invariant_of-db
+invariant_of-db g c = record { reads = reads _ _ _ _ _ c.in-Ok.is c.check.ensures }

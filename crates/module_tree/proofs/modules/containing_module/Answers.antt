@@ -11,7 +11,7 @@ pub returns-in_default : goal.returns-in_default
 unfolding containing
 returns-in_default c =
     let e = c.parent.ensures in
-    c.block.ensures ∙ containing_block (parent_of (snap_of c.args.words.now c.args.area.now c.args.l) c.args.m.0) _
+    c.block.ensures ∙ containing_block (parent_of (snap_of c.args.db.now.records.words.now c.args.db.now.area.now c.args.db.now.records.layout) c.args.m.0) _
     (none_number _ e c.in_default.is)
 
 pub returns : goal.returns
@@ -19,5 +19,5 @@ unfolding containing
 returns c =
     let e = c.parent.ensures in
     let p = c.in-Some.is in
-    sym (ap plus_one p) ∙ e ∙ containing_parent (parent_of (snap_of c.args.words.now c.args.area.now c.args.l) c.args.m.0) _
+    sym (ap plus_one p) ∙ e ∙ containing_parent (parent_of (snap_of c.args.db.now.records.words.now c.args.db.now.area.now c.args.db.now.records.layout) c.args.m.0) _
     (λ z. omega (arith, z, some_number _ e p))

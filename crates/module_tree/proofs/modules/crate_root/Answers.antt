@@ -5,14 +5,11 @@ use Rattle.module_tree.proofs.Reading.{crate_there}
 use Rattle.module_tree.proofs.modules.crate_root.Goals as goal
 
 pub own-requires : goal.own-requires
-own-requires c = (
-  c.requires.0,
-  rw c.krate-c.ensures (crate_there c.args.words.now c.args.area.now c.args.l c.requires.0
-      c.args.m.0 c.requires.1),
-)
+own-requires c = rw c.krate-c.ensures (crate_there c.args.db.now.records.words.now c.args.db.now.area.now c.args.db.now.records.layout c.args.db.now.reads
+    c.args.m.0 c.requires)
 
 pub returns : goal.returns
 unfolding crate_root
 returns c =
-    let n = snap_of c.args.words.now c.args.area.now c.args.l in
+    let n = snap_of c.args.db.now.records.words.now c.args.db.now.area.now c.args.db.now.records.layout in
     c.root.ensures ∙ ap (root_of n) (c.own.ensures.0 ∙ ap (own_map n) c.krate-c.ensures)

@@ -4,4 +4,4 @@ use Rattle.module_tree.proofs.modules.root.Goals as goal
 
 pub returns : goal.returns
 returns c =
-    c.map_root.ensures ∙ root_read c.args.words.now c.args.area.now c.args.l c.requires.0.tables c.args.map c.requires.1
+    c.map_root.ensures ∙ root_read c.args.db.now.records.words.now c.args.db.now.area.now c.args.db.now.records.layout c.args.db.now.reads.tables c.args.map c.requires

@@ -4,8 +4,8 @@ use Rattle.snapshot.specs.Layouts.{snap_of}
 use Rattle.tree_rules.specs.Visibility.{climb}
 use Rattle.module_tree.proofs.visibility.climb.Given as goal
 
-abbrev pub invariant-loop-l : goal.invariant-loop-l
-invariant-loop-l l = (climb (snap_of l.words l.area l.l) l.viewer l.initial.t.0 ≡ climb (snap_of l.words l.area l.l) l.viewer l.t.0) × (l.t.0 < l.l.modules)
+abbrev pub invariant-loop-t : goal.invariant-loop-t
+invariant-loop-t l = (climb (snap_of l.db.records.words.now l.db.area.now l.db.records.layout) l.viewer l.initial.t.0 ≡ climb (snap_of l.db.records.words.now l.db.area.now l.db.records.layout) l.viewer l.t.0) × (l.t.0 < l.db.records.layout.modules)
 
-abbrev pub decreases-loop-l : goal.decreases-loop-l
-decreases-loop-l l = l.t.0
+abbrev pub decreases-loop-t : goal.decreases-loop-t
+decreases-loop-t l = l.t.0

@@ -10,18 +10,18 @@ use Rattle.module_tree.proofs.visibility.is_visible_from.Goals as goal
 
 pub returns-in-Public : goal.returns-in-Public
 returns-in-Public c =
-    visible_public (snap_of c.args.words.now c.args.area.now c.args.l) _ (visibility_number c.args.visibility)
+    visible_public (snap_of c.args.db.now.records.words.now c.args.db.now.area.now c.args.db.now.records.layout) _ (visibility_number c.args.visibility)
     c.args.viewer.0 (ap visibility_kind c.in-Public.is)
 
 pub returns-in-InCrate : goal.returns-in-InCrate
 returns-in-InCrate c =
     ap₂ eqb c.krate-here.ensures (sym (ap visibility_number c.in-InCrate.is))
-    ∙ visible_crate (snap_of c.args.words.now c.args.area.now c.args.l) _ (visibility_number c.args.visibility)
+    ∙ visible_crate (snap_of c.args.db.now.records.words.now c.args.db.now.area.now c.args.db.now.records.layout) _ (visibility_number c.args.visibility)
     c.args.viewer.0 (ap visibility_kind c.in-InCrate.is)
 
 pub returns-in-InModule : goal.returns-in-InModule
 unfolding is_visible_from
 returns-in-InModule c =
-    let n = snap_of c.args.words.now c.args.area.now c.args.l in
+    let n = snap_of c.args.db.now.records.words.now c.args.db.now.area.now c.args.db.now.records.layout in
     let f = λ (w : Visibility). is_visible_from n (visibility_kind w) (visibility_number w) c.args.viewer.0 in
     c.in_module.ensures ∙ elim c.in-InModule.is [ inl e ↦ ap f (sym e) | inr e ↦ ap f (sym e) ]

@@ -1,12 +1,12 @@
 use mathlib.Core.Path.{ap, ◌∙◌}
 use mathlib.Core.Bool.{◌||◌}
-use Rattle.snapshot.specs.Layouts.{snap_of}
 use Rattle.path_choices.specs.Choices.{extended, push}
+use Rattle.accept.specs.Opened.{snap_in}
 use Rattle.path_choices.proofs.Choice.push.Goals as goal
 
 pub returns : goal.returns
 unfolding push
 returns c =
-    let n = snap_of c.args.words.now c.args.area.now c.args.l in
+    let n = snap_in c.args.db.now in
     c.extended.ensures ∙ ap (λ b. extended n c.args.self c.args.n.0 c.args.via (c.args.self.has_prelude_segment || b))
     c.is_prelude-flag.ensures

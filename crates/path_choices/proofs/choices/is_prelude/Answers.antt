@@ -10,4 +10,4 @@ returns c =
       c.field-first.ensures,
       c.name_head-h.ensures,
     )
-    (name_prelude c.args.words.now c.args.area.now c.args.l c.requires.0 c.args.n.0 c.requires.1)
+    (name_prelude c.args.db.now.records.words.now c.args.db.now.area.now c.args.db.now.records.layout c.args.db.now.reads c.args.n.0 c.requires)

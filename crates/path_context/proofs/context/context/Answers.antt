@@ -1,17 +1,13 @@
-use Rattle.snapshot.specs.Layouts.{snap_of}
 use Rattle.hir_def.proofs.Fits.{few_words}
 use Rattle.path_context.proofs.ContextLaws.{context_same}
+use Rattle.accept.specs.Opened.{snap_in}
 use Rattle.path_context.proofs.context.context.Goals as goal
-
-pub is_lang-std-requires : goal.is_lang-std-requires
-is_lang-std-requires c =
-    few_words c.args.words.now c.args.area.now c.args.l c.requires.0
 
 pub returns : goal.returns
 returns c =
-    let n = snap_of c.args.words.now c.args.area.now c.args.l in
-    let A = c.args.area.now in
-    context_same n c.args.q c.args.home.0 c.requires.3
+    let n = snap_in c.args.db.now in
+    let A = c.args.db.now.area.now in
+    context_same n c.args.q c.args.home.0 c.requires.2
     c.in_block.ensures
     c.plain_if-prefix.ensures
     c.krate-here.ensures

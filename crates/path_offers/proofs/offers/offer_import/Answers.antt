@@ -1,41 +1,43 @@
 use mathlib.Core.Path.{sym, ◌∙◌}
 use borrow.Author.Tests.{not-true, not-false}
 use Rattle.snapshot.specs.Records.{import_at}
-use Rattle.snapshot.specs.Layouts.{snap_of}
 use Rattle.path_offers.proofs.OfferLaws.{unstably_fits, import_stable, import_barred, import_unstable}
+use Rattle.accept.specs.Opened.{snap_in}
 use Rattle.path_offers.proofs.offers.offer_import.Goals as goal
 
-pub step_by-via-requires : goal.step_by-via-requires
-step_by-via-requires c = c.requires.1.place
-
 pub offer-requires : goal.offer-requires
-offer-requires c =
-    (c.requires.0, rw c.import_name-n.ensures c.requires.1.name, c.requires.2, c.requires.3, c.requires.4, c.requires.5)
+offer-requires c = (
+  rw c.import_name-n.ensures c.requires.0.name,
+  c.requires.1,
+  c.requires.2,
+  c.requires.3,
+  c.requires.4,
+)
 
 pub returns-then-not-is_unstable : goal.returns-then-not-is_unstable
 returns-then-not-is_unstable c =
-    let n = snap_of c.args.words.now c.args.area.now c.args.l in
-    let i = import_at c.args.words.now c.args.h in
+    let n = snap_in c.args.db.now in
+    let i = import_at c.args.db.now.records.words.now c.args.h in
     c.offer.ensures ∙ import_stable n c.args.x c.args.best c.args.c i c.import_name-n.ensures
     c.step_by-via.ensures (sym c.is_unstable.ensures ∙ c.if-not-is_unstable.true)
 
 pub returns-then-not-x : goal.returns-then-not-x
 returns-then-not-x c =
-    let n = snap_of c.args.words.now c.args.area.now c.args.l in
-    let i = import_at c.args.words.now c.args.h in
+    let n = snap_in c.args.db.now in
+    let i = import_at c.args.db.now.records.words.now c.args.h in
     import_barred n c.args.x c.args.best c.args.c i c.import_name-n.ensures
     c.step_by-via.ensures (sym c.is_unstable.ensures
     ∙ c.if-not-is_unstable.false) (not-true _ c.if-not-x.true)
 
 pub offer-requires-2 : goal.offer-requires-2
 offer-requires-2 c =
-    let u = unstably_fits c.args.c c.unstably.ensures c.requires.3 c.requires.4 c.requires.5 in
-    (c.requires.0, rw c.import_name-n.ensures c.requires.1.name, c.requires.2, u.0, u.1, u.2)
+    let u = unstably_fits c.args.c c.unstably.ensures c.requires.2 c.requires.3 c.requires.4 in
+    (rw c.import_name-n.ensures c.requires.0.name, c.requires.1, u.0, u.1, u.2)
 
 pub returns : goal.returns
 returns c =
-    let n = snap_of c.args.words.now c.args.area.now c.args.l in
-    let i = import_at c.args.words.now c.args.h in
+    let n = snap_in c.args.db.now in
+    let i = import_at c.args.db.now.records.words.now c.args.h in
     c.offer-2.ensures ∙ import_unstable n c.args.x c.args.best c.args.c i
     c.import_name-n.ensures
     c.step_by-via.ensures c.unstably.ensures

@@ -6,4 +6,4 @@ pub returns : goal.returns
 unfolding find_in_scope
 returns c =
     let e = c.scope_entry.ensures in
-    (e, scope_below c.args.words.now c.args.area.now c.args.l c.requires.0 c.args.x c.args.item c.scope_entry.result e)
+    (e, scope_below c.args.db.now.records.words.now c.args.db.now.area.now c.args.db.now.records.layout c.args.db.now.reads c.args.x c.args.item c.scope_entry.result e)

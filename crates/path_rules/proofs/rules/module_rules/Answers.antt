@@ -1,8 +1,8 @@
 use mathlib.Core.Path.{◌∙◌}
 use Rattle.hir_def.specs.Items.{module_item}
-use Rattle.snapshot.specs.Layouts.{snap_of}
 use Rattle.find_path.specs.Rules.{find_in_prelude, prelude_rule, module_rules}
 use Rattle.path_rules.proofs.RuleLaws.{first_hit, first_miss, single_last}
+use Rattle.accept.specs.Opened.{snap_in}
 use Rattle.path_rules.proofs.rules.module_rules.Goals as goal
 
 pub returns-then-first : goal.returns-then-first
@@ -24,7 +24,7 @@ returns-then-third c =
 pub returns : goal.returns
 unfolding prelude_rule module_rules
 returns c =
-    let n = snap_of c.args.words.now c.args.area.now c.args.l in
+    let n = snap_in c.args.db.now in
     c.prelude_rule.ensures ∙ single_last n c.args.x 0 2 (find_in_prelude n c.args.x (module_item c.args.m.0))
     ∙ first_miss _ c.keyword_rule-third.ensures c.if-third.false
     ∙ first_miss _ c.scope_rule-second.ensures c.if-second.false

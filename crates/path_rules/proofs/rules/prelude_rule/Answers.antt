@@ -1,10 +1,10 @@
 use mathlib.Core.Path.{ap, ◌∙◌}
-use Rattle.snapshot.specs.Layouts.{snap_of}
 use Rattle.find_path.specs.Rules.{single, prelude_rule}
+use Rattle.accept.specs.Opened.{snap_in}
 use Rattle.path_rules.proofs.rules.prelude_rule.Goals as goal
 
 pub returns : goal.returns
 unfolding prelude_rule
 returns c =
-    let n = snap_of c.args.words.now c.args.area.now c.args.l in
+    let n = snap_in c.args.db.now in
     c.single.ensures c.args.x ∙ ap (single n c.args.x 0 2) c.find_in_prelude-e.ensures.0

@@ -1,38 +1,37 @@
 use mathlib.Core.Path.{sym, ap, ◌∙◌}
 use Rattle.snapshot.specs.Records.{extern_at}
-use Rattle.snapshot.specs.Layouts.{snap_of}
 use Rattle.hir_def.specs.Entries.{entry_of}
 use Rattle.hir_def.proofs.Fits.{extern_fits}
 use Rattle.path_rules.proofs.RuleLaws.{root_other, root_crate, root_extern}
+use Rattle.accept.specs.Opened.{snap_in}
 use Rattle.path_rules.proofs.rules.root_rule.Goals as goal
 
 pub returns-then-top-m : goal.returns-then-top-m
 returns-then-top-m c =
-    let n = snap_of c.args.words.now c.args.area.now c.args.l in
+    let n = snap_in c.args.db.now in
     c.nothing.ensures ∙ root_other n c.args.x c.args.maybe_extern c.args.m.0 c.crate_root-top.ensures
     c.if-top-m.true
 
 pub returns-then-maybe_extern-m : goal.returns-then-maybe_extern-m
 returns-then-maybe_extern-m c =
-    let n = snap_of c.args.words.now c.args.area.now c.args.l in
+    let n = snap_in c.args.db.now in
     c.keyword.ensures ∙ root_crate n c.args.x c.args.maybe_extern c.args.m.0
     c.crate_root-top.ensures c.if-top-m.false
     c.if-maybe_extern-m.true
 
 pub extern_rule-requires : goal.extern_rule-requires
 extern_rule-requires c =
-    let W = c.args.words.now in
-    let A = c.args.area.now in (
+    let W = c.args.db.now.records.words.now in
+    let A = c.args.db.now.area.now in (
       c.requires.0,
-      c.requires.1,
-      λ h e. extern_fits W A c.args.l c.requires.0 c.args.x.from_crate.0 c.args.m.0 h
+      λ h e. extern_fits W A c.args.db.now.records.layout c.args.db.now.reads c.args.x.from_crate.0 c.args.m.0 h
           (sym (ap (entry_of extern_at W) e) ∙ c.extern_of-e.ensures A),
     )
 
 pub returns : goal.returns
 returns c =
-    let n = snap_of c.args.words.now c.args.area.now c.args.l in
+    let n = snap_in c.args.db.now in
     c.extern_rule.ensures
     ∙ root_extern n c.args.x c.args.maybe_extern c.args.m.0
     c.crate_root-top.ensures
-    c.if-top-m.false c.if-maybe_extern-m.false (c.extern_of-e.ensures c.args.area.now)
+    c.if-top-m.false c.if-maybe_extern-m.false (c.extern_of-e.ensures c.args.db.now.area.now)

@@ -7,9 +7,8 @@ use Rattle.printer.proofs.each.each_answer.Goals as goal
 pub loop-at-init : goal.loop-at-init
 loop-at-init g c = (
   search of_calls,
-  checks_judged _ c.args.area.now _ _ (sym c.requires.room.2) c.check-c.ensures,
-  omega (arith, c.check-c.auto.area, c.requires.room.2),
-  c.requires.room.3,
+  checks_judged _ c.args.area.now _ _ c.told-area c.check-c.ensures,
+  c.requires.room.2,
   λ later last t f. (later, t, f),
 )
 
@@ -18,16 +17,15 @@ loop-at-preserved g c =
     let t = c.next_line-t in (
       search of_calls,
       t.ensures.checked,
-      omega (arith, t.auto.area, c.loop-at.invariant.2),
-      omega (arith, t.auto.out, c.loop-at.invariant.3),
+      omega (arith, t.auto.out, c.loop-at.invariant.2),
       λ later last more f.
-          c.loop-at.invariant.4 (_ ∷ later) last (turn _ _ _ t.result c.loop-at-test.true t.ensures more)
+          c.loop-at.invariant.3 (_ ∷ later) last (turn _ _ _ t.result c.loop-at-test.true t.ensures more)
           (c.each.new.self, record { shown = _; shows = refl; called = c.in_ok-each.ensures }, f),
     )
 
 pub returns : goal.returns
 returns g c =
-    let p = c.loop-at.invariant.4 [] c.loop-at.each (end c.loop-at-test.false) refl in
+    let p = c.loop-at.invariant.3 [] c.loop-at.each (end c.loop-at-test.false) refl in
     (c.check-c.result, p.0, c.loop-at.each, p.1, p.2)
 
 pub loop-at-smaller : goal.loop-at-smaller

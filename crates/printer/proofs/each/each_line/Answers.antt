@@ -32,7 +32,7 @@ pub each_answer-requires-clause-room : goal.each_answer-requires-clause-room
 each_answer-requires-clause-room g c =
     let f = fault_free c.args.bytes.now c.in_default.ensures in
     let e = length-take-le (length c.args.bytes.now / 4) c.words_in.new.words (omega (arith, f, c.requires.room.0, c.words_in.auto.words)) in
-    (c.first_question-k.ensures.1, omega (arith, e, f), c.requires.room.1, c.requires.room.2)
+    (c.first_question-k.ensures.1, omega (arith, e, f), c.requires.room.1)
 
 pub returns-in-Err : goal.returns-in-Err
 returns-in-Err g c =

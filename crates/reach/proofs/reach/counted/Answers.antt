@@ -12,46 +12,51 @@ pub returns-in_err-call_fault : goal.returns-in_err-call_fault
 returns-in_err-call_fault c =
     let p = err_from_is_err_and c.from_residual.result c.from_residual.ensures.1 in
     rw (p.1, p.2) (record {
-      reach = reach_fault c.args.v _ c.args.words.now area_limit _ (fault_at _ _ _ _ c.requires.1 c.in_err-call_fault.ensures) (refusal_some _) refl;
-      checked = c.requires.0;
+      reach = reach_fault c.args.v _ c.args.words.now area_limit _ c.in_err-call_fault.ensures (refusal_some _) refl;
+      checked = c.requires;
     })
 
-pub returns-in_err-l : goal.returns-in_err-l
-returns-in_err-l c =
+pub returns-in_err-layout : goal.returns-in_err-layout
+returns-in_err-layout c =
     let s = c.args in
-    let p = err_from_is_err_and c.from_residual-in_err-l.result c.from_residual-in_err-l.ensures.1 in
-    let k = by_refusal s.v _ s.words.now s.area.now s.c c.requires.0 _ c.in_err-l.was refl in
+    let p = err_from_is_err_and c.from_residual-in_err-layout.result c.from_residual-in_err-layout.ensures.1 in
+    let k = by_refusal s.v _ s.words.now s.area.now s.c c.requires _ c.in_err-layout.was refl in
     rw (p.1, p.2) (record {
-      reach = reach_verdict s.v _ s.words.now area_limit _ (fault_at _ _ _ _ c.requires.1 c.in_ok-call_fault.ensures) refl k.0;
+      reach = reach_verdict s.v _ s.words.now area_limit _ c.in_ok-call_fault.ensures refl k.0;
       checked = k.1;
     })
 
-pub returns-then-l-v : goal.returns-then-l-v
-returns-then-l-v c =
+pub returns-then-layout-v : goal.returns-then-layout-v
+returns-then-layout-v c =
     let s = c.args in
-    let l = c.in_ok-l.l in
-    let e = unknown_module s.v _ (snap_of s.words.now s.area.now l) _ (modules_count s.words.now s.area.now l) c.if-l-v.true refl in
-    let k = by_answer s.v _ s.words.now s.area.now s.c c.requires.0 l _ c.in_ok-l.was refl e in
+    let l = c.in_ok-layout.layout in
+    let e = unknown_module s.v _ (snap_of s.words.now s.area.now l) _ (modules_count s.words.now s.area.now l) c.if-layout-v.true refl in
+    let k = by_answer s.v _ s.words.now s.area.now s.c c.requires l _ c.in_ok-layout.was refl e in
     record {
-      reach = reach_verdict s.v _ s.words.now area_limit _ (fault_at _ _ _ _ c.requires.1 c.in_ok-call_fault.ensures) refl k.0;
+      reach = reach_verdict s.v _ s.words.now area_limit _ c.in_ok-call_fault.ensures refl k.0;
       checked = k.1;
     }
 
 pub reach_in-requires : goal.reach_in-requires
 reach_in-requires c =
     let s = c.args in
-    let k = fault_free area_limit (query_for s.v 0 0) s.v.fuel (fault_at _ _ _ _ c.requires.1 c.in_ok-call_fault.ensures) in
-    (reads_of s.words.now s.area.now s.c c.requires.0 _ c.in_ok-l.was, c.requires.1, c.if-l-v.false, k.1, k.3, k.4)
+    let k = fault_free area_limit (query_for s.v 0 0) s.v.fuel c.in_ok-call_fault.ensures in (
+      reads_of s.words.now s.area.now s.c c.requires _ c.in_ok-layout.was,
+      c.if-layout-v.false,
+      k.1,
+      k.3,
+      k.4,
+    )
 
 pub returns : goal.returns
 returns c =
     let s = c.args in
-    let l = c.in_ok-l.l in
+    let l = c.in_ok-layout.layout in
     let f = c.reach_in.ensures in
-    let e = known_module s.v _ (snap_of s.words.now s.area.now l) _ (modules_count s.words.now s.area.now l) c.if-l-v.false
+    let e = known_module s.v _ (snap_of s.words.now s.area.now l) _ (modules_count s.words.now s.area.now l) c.if-layout-v.false
     f.number_value.0 f.number_value.1 in
-    let k = by_answer s.v _ s.words.now s.area.now s.c c.requires.0 l _ c.in_ok-l.was f.area_unchanged e in
+    let k = by_answer s.v _ s.words.now s.area.now s.c c.requires l _ c.in_ok-layout.was f.area_unchanged e in
     record {
-      reach = reach_verdict s.v _ s.words.now area_limit _ (fault_at _ _ _ _ c.requires.1 c.in_ok-call_fault.ensures) refl k.0;
+      reach = reach_verdict s.v _ s.words.now area_limit _ c.in_ok-call_fault.ensures refl k.0;
       checked = k.1;
     }

@@ -15,7 +15,7 @@ returns-then-same_item c =
     λ A.
     let w = c.loop-j in
     any_hit _ _ _ _ _ (w.invariant A) c.loop-j-test.true
-    (met_test c.args.words.now A c.args.l w.j c.args.k c.scope_base-base.ensures c.same_item.ensures
+    (met_test c.args.records.now.words.now A c.args.records.now.layout w.j c.args.k c.scope_base-base.ensures c.same_item.ensures
     (c.item_in.ensures A) (c.item_in-item.ensures A) ∙ c.if-same_item.true)
 
 pub loop-j-preserved : goal.loop-j-preserved
@@ -23,7 +23,7 @@ loop-j-preserved c =
     λ A.
     let w = c.loop-j in
     any_miss _ _ _ _ _ (w.invariant A) c.loop-j-test.true
-    (met_test c.args.words.now A c.args.l w.j c.args.k c.scope_base-base.ensures c.same_item.ensures
+    (met_test c.args.records.now.words.now A c.args.records.now.layout w.j c.args.k c.scope_base-base.ensures c.same_item.ensures
     (c.item_in.ensures A) (c.item_in-item.ensures A) ∙ c.if-same_item.false)
 
 pub returns : goal.returns

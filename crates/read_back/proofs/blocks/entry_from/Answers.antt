@@ -1,17 +1,17 @@
 use Rattle.std.proofs.Common.{rules}
-use Rattle.snapshot.specs.Layouts.{snap_of}
 use Rattle.hir_def.specs.ItemScope.{get}
 use Rattle.hir_def.proofs.Searches.{step_less, outwards}
 use Rattle.readings.specs.Reads.{scopes_from, entry_from}
 use Rattle.read_back.proofs.Outward.{outward_down}
+use Rattle.accept.specs.Opened.{snap_in}
 use Rattle.read_back.proofs.blocks.entry_from.Goals as goal
 
 pub nearest-requires-clause-falls : goal.nearest-requires-clause-falls
-nearest-requires-clause-falls c = λ m b i p. step_less (outward_down c.requires.0) c.requires.1 i (search rules)
+nearest-requires-clause-falls c = λ m b i p. step_less (outward_down c.args.db.now.reads) c.requires i (search rules)
 
 pub returns : goal.returns
 unfolding entry_from scopes_from
 returns c =
-    let S = snap_of c.args.words.now c.args.area.now c.args.l in
+    let S = snap_in c.args.db.now in
     c.nearest.ensures _ (λ m. get S m c.args.ns c.args.name.0) _
-    (outwards (outward_down c.requires.0) c.requires.1 (λ m e i p. search rules) (λ m o i p. search rules))
+    (outwards (outward_down c.args.db.now.reads) c.requires (λ m e i p. search rules) (λ m o i p. search rules))

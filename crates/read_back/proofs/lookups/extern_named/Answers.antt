@@ -8,5 +8,5 @@ pub returns : goal.returns
 unfolding extern_named
 returns c =
     λ A.
-    first_by (is_extern_named c.args.c.0 c.args.name.0) extern_at c.args.words.now _ _ c.extern_base.ensures
+    first_by (is_extern_named c.args.c.0 c.args.name.0) extern_at c.args.records.now.words.now _ _ c.extern_base.ensures
     (λ h t p. search rules) _ c.first_where.ensures

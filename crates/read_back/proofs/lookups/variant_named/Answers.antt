@@ -8,5 +8,5 @@ pub returns : goal.returns
 unfolding variant_named
 returns c =
     λ A.
-    first_by (is_variant_named c.args.d.0 c.args.name.0) member_at c.args.words.now _ _ c.member_base.ensures
+    first_by (is_variant_named c.args.d.0 c.args.name.0) member_at c.args.records.now.words.now _ _ c.member_base.ensures
     (λ h t p. search rules) _ c.first_where.ensures

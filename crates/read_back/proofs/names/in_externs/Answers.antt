@@ -1,28 +1,24 @@
 use mathlib.Core.Path.{sym, ap, ◌∙◌}
 use Rattle.snapshot.specs.Records.{extern_at}
-use Rattle.snapshot.specs.Layouts.{snap_of}
 use Rattle.hir_def.specs.Entries.{entry_of}
 use Rattle.hir_def.proofs.Fits.{few_words}
 use Rattle.read_back.proofs.Cases.{externs_other, externs_none, externs_some}
+use Rattle.accept.specs.Opened.{snap_in}
 use Rattle.read_back.proofs.names.in_externs.Goals as goal
 
 pub returns-then-ns-ne-TYPES : goal.returns-then-ns-ne-TYPES
 returns-then-ns-ne-TYPES c = externs_other _ _ _ _ c.if-ns-ne-TYPES.true
 
-pub extern_named-requires : goal.extern_named-requires
-extern_named-requires c = few_words c.args.words.now c.args.area.now
-    c.args.l c.requires.0
-
 pub returns-in_err-h : goal.returns-in_err-h
 returns-in_err-h c =
     c.from_residual.ensures
-    ∙ externs_none (snap_of c.args.words.now c.args.area.now c.args.l) c.args.from.0 c.args.ns c.args.name.0
-    c.if-ns-ne-TYPES.false c.krate.ensures (sym (c.extern_named.ensures c.args.area.now)
-    ∙ ap (entry_of extern_at c.args.words.now) c.in_err-h.was)
+    ∙ externs_none (snap_in c.args.db.now) c.args.from.0 c.args.ns c.args.name.0
+    c.if-ns-ne-TYPES.false c.krate.ensures (sym (c.extern_named.ensures c.args.db.now.area.now)
+    ∙ ap (entry_of extern_at c.args.db.now.records.words.now) c.in_err-h.was)
 
 pub returns : goal.returns
 returns c =
-    externs_some (snap_of c.args.words.now c.args.area.now c.args.l) c.args.from.0 c.args.ns c.args.name.0
-    c.if-ns-ne-TYPES.false c.krate.ensures (sym (c.extern_named.ensures c.args.area.now)
-    ∙ ap (entry_of extern_at c.args.words.now) c.in_ok-h.was) c.extern_target.ensures
+    externs_some (snap_in c.args.db.now) c.args.from.0 c.args.ns c.args.name.0
+    c.if-ns-ne-TYPES.false c.krate.ensures (sym (c.extern_named.ensures c.args.db.now.area.now)
+    ∙ ap (entry_of extern_at c.args.db.now.records.words.now) c.in_ok-h.was) c.extern_target.ensures
     c.means_module.ensures

@@ -12,7 +12,7 @@ pub returns-then-is_entry : goal.returns-then-is_entry
 returns-then-is_entry c =
     let a = c.args in
     let W = a.words.now in
-    walk_stop (is_entry (is_named a.owner a.ns a.name) W) W _ c.loop-at.at c.loop-at.invariant (sym c.is_entry.ensures ∙ c.if-is_entry.true)
+    walk_stop (is_entry (is_named a.key.owner a.key.ns a.key.name) W) W _ c.loop-at.at c.loop-at.invariant (sym c.is_entry.ensures ∙ c.if-is_entry.true)
 
 pub overflow_add-at-in-loop-at : goal.overflow_add-at-in-loop-at
 overflow_add-at-in-loop-at c =
@@ -25,11 +25,11 @@ pub loop-at-preserved : goal.loop-at-preserved
 loop-at-preserved c =
     let a = c.args in
     let W = a.words.now in
-    walk_on (is_entry (is_named a.owner a.ns a.name) W) W _ c.loop-at.at c.loop-at.invariant c.loop-at-test.true
+    walk_on (is_entry (is_named a.key.owner a.key.ns a.key.name) W) W _ c.loop-at.at c.loop-at.invariant c.loop-at-test.true
     (sym c.is_entry.ensures ∙ c.if-is_entry.false) c.arguments.ensures
 
 pub returns : goal.returns
 returns c =
     let a = c.args in
     let W = a.words.now in
-    walk_end_lem (is_entry (is_named a.owner a.ns a.name) W) W _ c.loop-at.at c.loop-at.invariant c.loop-at-test.false
+    walk_end_lem (is_entry (is_named a.key.owner a.key.ns a.key.name) W) W _ c.loop-at.at c.loop-at.invariant c.loop-at-test.false

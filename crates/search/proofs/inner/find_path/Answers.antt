@@ -3,7 +3,6 @@ use Prim.Native.Nat.{◌≤◌}
 use mathlib.Core.Path.{refl, sym, ap, ◌∙◌, subst}
 use mathlib.Core.Bool.{◌&&◌}
 use lib.Dec.{eqb}
-use Rattle.snapshot.specs.Layouts.{snap_of}
 use Rattle.hir_def.specs.Items.{ns_of}
 use Rattle.hir_def.specs.Entries.{Known}
 use Rattle.hir_def.specs.declared.Item.{Item}
@@ -16,41 +15,32 @@ use Rattle.find_path.specs.Charged.{found_of}
 use Rattle.charged_search.proofs.Holding.{module_small}
 use Rattle.search.proofs.Items.{item_ns}
 use Rattle.search.proofs.Starts.{builtin_kind_lem, home_there, context_from, context_limit, start_builtin, start_none, start_item}
+use Rattle.snapshot.specs.Laid.{snap_by}
 use Rattle.search.proofs.inner.find_path.Goals as goal
-
-pub kind_of-requires : goal.kind_of-requires
-kind_of-requires c = few_words _ _ _ c.requires.0
 
 pub builtin_choice-choice-requires : goal.builtin_choice-choice-requires
 builtin_choice-choice-requires c =
     let a = c.args in (
-      c.requires.0,
-      c.requires.2,
-      builtin_kind_lem (snap_of a.words.now a.area.now a.l) a.q.ns a.q.definition.0
-          refl (ap (λ b. eqb a.q.ns 0 && b) (sym (kind_is Builtin _ c.eq.ensures (c.kind_of.ensures a.area.now))) ∙ c.if-q-eq.true),
+      c.requires.1,
+      builtin_kind_lem (snap_by a.records.now a.area.now) a.q.ns a.q.definition.0
+          refl (ap (λ b. eqb a.q.ns 0 && b) (sym (kind_is Builtin _ c.eq.ensures (c.known_kind_of.ensures a.area.now))) ∙ c.if-q-eq.true),
     )
 
 pub returns-then-q-eq : goal.returns-then-q-eq
 returns-then-q-eq c =
     let a = c.args in
     record {
-      same = start_builtin (snap_of a.words.now a.area.now a.l) a.q a.fuel
-          refl (ap (λ b. eqb a.q.ns 0 && b) (sym (kind_is Builtin _ c.eq.ensures (c.kind_of.ensures a.area.now))) ∙ c.if-q-eq.true) c.builtin_choice-choice.ensures;
+      same = start_builtin (snap_by a.records.now a.area.now) a.q a.fuel
+          refl (ap (λ b. eqb a.q.ns 0 && b) (sym (kind_is Builtin _ c.eq.ensures (c.known_kind_of.ensures a.area.now))) ∙ c.if-q-eq.true) c.builtin_choice-choice.ensures;
       tables = refl;
     }
-
-pub item_of-item-requires : goal.item_of-item-requires
-item_of-item-requires c = few_words _ _ _ c.requires.0
-
-pub home_of-requires : goal.home_of-requires
-home_of-requires c = few_words _ _ _ c.requires.0
 
 pub returns-in_default : goal.returns-in_default
 returns-in_default c =
     let a = c.args in
     record {
-      same = start_none (snap_of a.words.now a.area.now a.l) a.q a.fuel _ _
-          refl (ap (λ b. eqb a.q.ns 0 && b) (sym (kind_is Builtin _ c.eq.ensures (c.kind_of.ensures a.area.now))) ∙ c.if-q-eq.false)
+      same = start_none (snap_by a.records.now a.area.now) a.q a.fuel _ _
+          refl (ap (λ b. eqb a.q.ns 0 && b) (sym (kind_is Builtin _ c.eq.ensures (c.known_kind_of.ensures a.area.now))) ∙ c.if-q-eq.false)
           (c.item_of-item.ensures a.area.now) (c.home_of.ensures a.area.now)
           (none_number _ refl c.in_default.is) c.nothing-choice.ensures;
       tables = refl;
@@ -59,19 +49,18 @@ returns-in_default c =
 pub module_in-own-requires : goal.module_in-own-requires
 module_in-own-requires c =
     let a = c.args in
-    let k = subst (Known a.l) (sym (c.item_of-item.ensures a.area.now))
-    (item_known a.words.now a.area.now a.l c.requires.0 a.q.ns a.q.definition.0 c.requires.2) in
-    module_small a.words.now a.area.now a.l _ c.requires.0 k
+    let k = subst (Known a.records.now.layout) (sym (c.item_of-item.ensures a.area.now))
+    (item_known a.records.now.words.now a.area.now a.records.now.layout c.requires.0 a.q.ns a.q.definition.0 c.requires.1) in
+    module_small a.records.now.words.now a.area.now a.records.now.layout _ c.requires.0 k
 
 pub context-x-requires : goal.context-x-requires
 context-x-requires c =
     let a = c.args in
     let i = c.item_of-item.ensures a.area.now in
-    let k = subst (Known a.l) (sym (c.item_of-item.ensures a.area.now))
-    (item_known a.words.now a.area.now a.l c.requires.0 a.q.ns a.q.definition.0 c.requires.2) in (
-      c.requires.0,
-      c.requires.3,
-      home_there a.words.now a.area.now a.l c.requires.0 _ k
+    let k = subst (Known a.records.now.layout) (sym (c.item_of-item.ensures a.area.now))
+    (item_known a.records.now.words.now a.area.now a.records.now.layout c.requires.0 a.q.ns a.q.definition.0 c.requires.1) in (
+      c.requires.2,
+      home_there a.records.now.words.now a.area.now a.records.now.layout c.requires.0 _ k
           (c.home_of.ensures a.area.now) (some_number _ refl c.in-Some.is),
       c.module_in-own.ensures ∙ ap module_in i,
     )
@@ -79,24 +68,24 @@ context-x-requires c =
 pub find_path_inner-requires : goal.find_path_inner-requires
 find_path_inner-requires c =
     let a = c.args in
-    let k = subst (Known a.l) (sym (c.item_of-item.ensures a.area.now))
-    (item_known a.words.now a.area.now a.l c.requires.0 a.q.ns a.q.definition.0 c.requires.2) in
-    let f = context_from (snap_of a.words.now a.area.now a.l) a.q _ c.context-x.ensures in
-    let n = context_limit (snap_of a.words.now a.area.now a.l) a.q _ c.context-x.ensures in (
+    let k = subst (Known a.records.now.layout) (sym (c.item_of-item.ensures a.area.now))
+    (item_known a.records.now.words.now a.area.now a.records.now.layout c.requires.0 a.q.ns a.q.definition.0 c.requires.1) in
+    let f = context_from (snap_by a.records.now a.area.now) a.q _ c.context-x.ensures in
+    let n = context_limit (snap_by a.records.now a.area.now) a.q _ c.context-x.ensures in (
       record {
         reads = c.requires.0;
-        from = omega (arith, f, c.requires.3);
-        area = c.requires.1;
-        some = omega (arith, n, c.requires.6);
+        from = omega (arith, f, c.requires.2);
+        area = c.told-area;
+        some = omega (arith, n, c.requires.5);
         limit =
-            omega (arith, n, c.requires.7);
+            omega (arith, n, c.requires.6);
       },
       (
         k,
         subst (λ (y : Item). ns_of y ≤ 2) (sym (c.item_of-item.ensures
-            a.area.now)) (item_ns (snap_of a.words.now a.area.now a.l) _ _ c.requires.4),
+            a.area.now)) (item_ns (snap_by a.records.now a.area.now) _ _ c.requires.3),
       ),
-      omega (arith, c.requires.5),
+      omega (arith, c.requires.4),
     )
 
 pub returns : goal.returns
@@ -104,8 +93,8 @@ returns c =
     let a = c.args in
     let f = c.find_path_inner in
     record {
-      same = f.ensures.same ∙ ap found_of (start_item (snap_of a.words.now a.area.now a.l) a.q a.fuel _ _
-          refl (ap (λ b. eqb a.q.ns 0 && b) (sym (kind_is Builtin _ c.eq.ensures (c.kind_of.ensures a.area.now))) ∙ c.if-q-eq.false)
+      same = f.ensures.same ∙ ap found_of (start_item (snap_by a.records.now a.area.now) a.q a.fuel _ _
+          refl (ap (λ b. eqb a.q.ns 0 && b) (sym (kind_is Builtin _ c.eq.ensures (c.known_kind_of.ensures a.area.now))) ∙ c.if-q-eq.false)
           (c.item_of-item.ensures a.area.now)
           (c.home_of.ensures a.area.now)
           (some_number _ refl c.in-Some.is)

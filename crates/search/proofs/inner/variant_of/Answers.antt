@@ -12,11 +12,11 @@ pub returns-then-eq : goal.returns-then-eq
 returns-then-eq c =
     λ A.
     let r = c.definition_head-h.ensures A in
-    let k = kind_yes Variant _ c.eq.ensures c.definition_kind.ensures c.if-eq.true in
+    let k = kind_yes Variant _ c.eq.ensures c.known_definition_kind.ensures c.if-eq.true in
     variant_yes _ c.in-Def.is (r.whole (omega (arith, r.kind, k))) refl k
 
 pub returns : goal.returns
 returns c =
     λ A.
     variant_no _ c.in-Def.is (c.definition_head-h.ensures A).kind
-    (kind_no Variant _ c.eq.ensures c.definition_kind.ensures c.if-eq.false)
+    (kind_no Variant _ c.eq.ensures c.known_definition_kind.ensures c.if-eq.false)

@@ -1,36 +1,35 @@
 use mathlib.Core.Path.{sym, ap, ◌∙◌}
 use Rattle.snapshot.specs.Records.{scope_at}
-use Rattle.snapshot.specs.Layouts.{snap_of}
 use Rattle.hir_def.specs.Entries.{entry_of}
 use Rattle.seen_entries.proofs.Laws.{declared_fits, both_not, both_alone, both_declared}
+use Rattle.accept.specs.Opened.{snap_in}
 use Rattle.seen_entries.proofs.entries.both_hold.Goals as goal
 
 pub returns-in_default : goal.returns-in_default
 returns-in_default c =
-    let W = c.args.words.now in
-    both_alone (snap_of c.args.words.now c.args.area.now c.args.l) (scope_at c.args.words.now c.args.h)
+    let W = c.args.db.now.records.words.now in
+    both_alone (snap_in c.args.db.now) (scope_at c.args.db.now.records.words.now c.args.h)
     c.args.v.0 (sym c.holds_at.ensures ∙ c.if-holds_at.true)
     (sym c.declaration_of.ensures ∙ ap (entry_of scope_at W) c.in_default.is)
 
 pub holds_at-requires-then-holds_at : goal.holds_at-requires-then-holds_at
 holds_at-requires-then-holds_at c =
-    let W = c.args.words.now in (
+    let W = c.args.db.now.records.words.now in (
       c.requires.0,
-      c.requires.1,
-      declared_fits W c.args.area.now c.args.l c.requires.0 (scope_at c.args.words.now c.args.h) _
+      declared_fits W c.args.db.now.area.now c.args.db.now.records.layout c.args.db.now.reads (scope_at c.args.db.now.records.words.now c.args.h) _
           (sym c.declaration_of.ensures ∙ ap (entry_of scope_at W) c.in-Some.is),
     )
 
 pub returns-then-holds_at : goal.returns-then-holds_at
 returns-then-holds_at c =
-    let W = c.args.words.now in
+    let W = c.args.db.now.records.words.now in
     c.holds_at-then-holds_at.ensures
-    ∙ both_declared (snap_of c.args.words.now c.args.area.now c.args.l) (scope_at c.args.words.now c.args.h)
+    ∙ both_declared (snap_in c.args.db.now) (scope_at c.args.db.now.records.words.now c.args.h)
     c.args.v.0 _ (sym c.holds_at.ensures
     ∙ c.if-holds_at.true) (sym c.declaration_of.ensures
     ∙ ap (entry_of scope_at W) c.in-Some.is)
 
 pub returns : goal.returns
 returns c =
-    both_not (snap_of c.args.words.now c.args.area.now c.args.l) (scope_at c.args.words.now c.args.h)
+    both_not (snap_in c.args.db.now) (scope_at c.args.db.now.records.words.now c.args.h)
     c.args.v.0 (sym c.holds_at.ensures ∙ c.if-holds_at.false)

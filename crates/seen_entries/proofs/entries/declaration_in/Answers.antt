@@ -8,5 +8,5 @@ pub returns : goal.returns
 unfolding declaration_in
 returns c =
     λ A.
-    first_by (is_declaration c.args.m.0 c.args.ns c.args.d.0) scope_at c.args.words.now _ _ c.scope_base.ensures
+    first_by (is_declaration c.args.m.0 c.args.ns c.args.d.0) scope_at c.args.records.now.words.now _ _ c.scope_base.ensures
     (λ h t p. search rules) _ c.first_where.ensures

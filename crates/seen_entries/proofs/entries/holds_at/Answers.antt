@@ -1,16 +1,19 @@
 use mathlib.Core.Path.{ap, ◌∙◌}
-use Rattle.snapshot.specs.Layouts.{snap_of}
 use Rattle.snapshot.specs.Visibilities.{visibility_kind, visibility_number}
 use Rattle.tree_rules.proofs.Visible.{number_within}
 use Rattle.nameable.specs.Seen.{holds}
 use Rattle.seen_entries.proofs.Laws.{holds_by}
+use Rattle.accept.specs.Opened.{snap_in}
 use Rattle.seen_entries.proofs.entries.holds_at.Goals as goal
 
 pub holds-requires : goal.holds-requires
-holds-requires c = (c.requires.0, c.requires.1, rw c.scope_seen.ensures (number_within _ _ c.requires.2.inside))
+holds-requires c = (
+  c.requires.0,
+  rw c.scope_seen.ensures (number_within _ _ c.requires.1.inside),
+)
 
 pub returns : goal.returns
 returns c =
-    let n = snap_of c.args.words.now c.args.area.now c.args.l in
+    let n = snap_in c.args.db.now in
     c.holds.ensures ∙ ap (λ w. holds n (visibility_kind w) (visibility_number w) c.args.v.0) c.scope_seen.ensures
     ∙ holds_by n _ _ _

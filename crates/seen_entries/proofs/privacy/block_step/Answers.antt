@@ -1,17 +1,17 @@
 use mathlib.Core.Path.{sym, ◌∙◌}
 use Rattle.snapshot.specs.Ids.{plus_one}
-use Rattle.snapshot.specs.Layouts.{snap_of}
 use Rattle.module_tree.proofs.Climbs.{some_number, none_number}
 use Rattle.seen_entries.proofs.Laws.{step_root, step_inner}
+use Rattle.accept.specs.Opened.{snap_in}
 use Rattle.seen_entries.proofs.privacy.block_step.Goals as goal
 
 pub returns-in-Some : goal.returns-in-Some
 unfolding plus_one
 returns-in-Some c =
-    sym (step_inner (snap_of c.args.words.now c.args.area.now c.args.l) c.args.m.0 _
+    sym (step_inner (snap_in c.args.db.now) c.args.m.0 _
     (some_number _ c.parent.ensures c.in-Some.is))
 
 pub returns-in-None : goal.returns-in-None
 returns-in-None c =
-    c.block.ensures ∙ sym (step_root (snap_of c.args.words.now c.args.area.now c.args.l) c.args.m.0
+    c.block.ensures ∙ sym (step_root (snap_in c.args.db.now) c.args.m.0
     (none_number _ c.parent.ensures c.in-None.is))

@@ -1,27 +1,27 @@
 use mathlib.Core.Path.{ap, ap₂, sym, ◌∙◌}
 use mathlib.Core.Logic.{inl, inr}
 use lib.Dec.{eqb}
-use Rattle.snapshot.specs.Layouts.{snap_of}
 use Rattle.snapshot.specs.declared.ids.Visibility.{Visibility}
 use Rattle.snapshot.specs.Visibilities.{visibility_kind, visibility_number}
 use Rattle.nameable.specs.Seen.{holds}
 use Rattle.seen_entries.proofs.Laws.{holds_public, holds_crate}
+use Rattle.accept.specs.Opened.{snap_in}
 use Rattle.seen_entries.proofs.privacy.holds.Goals as goal
 
 pub returns-in-Public : goal.returns-in-Public
 returns-in-Public c =
-    holds_public (snap_of c.args.words.now c.args.area.now c.args.l) _ (visibility_number c.args.visibility)
+    holds_public (snap_in c.args.db.now) _ (visibility_number c.args.visibility)
     c.args.viewer.0 (ap visibility_kind c.in-Public.is)
 
 pub returns-in-InCrate : goal.returns-in-InCrate
 returns-in-InCrate c =
     ap₂ eqb c.krate-here.ensures (sym (ap visibility_number c.in-InCrate.is))
-    ∙ holds_crate (snap_of c.args.words.now c.args.area.now c.args.l) _ (visibility_number c.args.visibility)
+    ∙ holds_crate (snap_in c.args.db.now) _ (visibility_number c.args.visibility)
     c.args.viewer.0 (ap visibility_kind c.in-InCrate.is)
 
 pub returns-in-InModule : goal.returns-in-InModule
 unfolding holds
 returns-in-InModule c =
-    let n = snap_of c.args.words.now c.args.area.now c.args.l in
+    let n = snap_in c.args.db.now in
     let f = λ (w : Visibility). holds n (visibility_kind w) (visibility_number w) c.args.viewer.0 in
     c.privately.ensures ∙ elim c.in-InModule.is [ inl e ↦ ap f (sym e) | inr e ↦ ap f (sym e) ]

@@ -1,12 +1,12 @@
 use mathlib.Core.Path.{ap, ◌∙◌}
-use Rattle.snapshot.specs.Layouts.{snap_of}
 use Rattle.tree_rules.specs.Modules.{containing}
 use Rattle.tree_rules.specs.Visibility.{met}
 use Rattle.tree_rules.specs.Privately.{privately}
+use Rattle.accept.specs.Opened.{snap_in}
 use Rattle.seen_entries.proofs.privacy.privately.Goals as goal
 
 pub returns : goal.returns
 unfolding privately
 returns c =
-    c.meets.ensures ∙ ap (met (containing (snap_of c.args.words.now c.args.area.now c.args.l)) c.args.viewer.0)
+    c.meets.ensures ∙ ap (met (containing (snap_in c.args.db.now)) c.args.viewer.0)
     c.module_around-t.ensures.0

@@ -1,13 +1,13 @@
-use Rattle.snapshot.specs.Layouts.{snap_of}
 use Rattle.shortest_paths.proofs.Laws.{enum_module, enum_as}
+use Rattle.accept.specs.Opened.{snap_in}
 use Rattle.shortest_paths.proofs.by_enum.enum_told.Goals as goal
 
 pub returns-in-Mod : goal.returns-in-Mod
 returns-in-Mod c =
-    enum_module c.args.named (snap_of c.args.words.now c.args.area.now c.args.l) c.args.from.0 _
-    c.in-Mod.is c.nothing.ensures
+    enum_module c.args.named (snap_in c.args.db.now) c.args.from.0 _
+    c.in-Mod.is
 
 pub returns-in-Def : goal.returns-in-Def
 returns-in-Def c =
-    enum_as c.args.named (snap_of c.args.words.now c.args.area.now c.args.l) c.args.from.0 _ _
+    enum_as c.args.named (snap_in c.args.db.now) c.args.from.0 _ _
     c.in-Def.is c.variant_told.ensures

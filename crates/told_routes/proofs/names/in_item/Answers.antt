@@ -1,13 +1,13 @@
-use Rattle.snapshot.specs.Layouts.{snap_of}
 use Rattle.told_routes.proofs.Laws.{within_module, within_other}
+use Rattle.accept.specs.Opened.{snap_in}
 use Rattle.told_routes.proofs.names.in_item.Goals as goal
 
 pub returns-in-Mod : goal.returns-in-Mod
 returns-in-Mod c =
-    let S = snap_of c.args.words.now c.args.area.now c.args.l in
+    let S = snap_in c.args.db.now in
     within_module S c.args.from.0 c.args.ns c.args.name.0 _ c.in-Mod.is c.in_module.ensures
 
 pub returns-in-Def : goal.returns-in-Def
 returns-in-Def c =
-    let S = snap_of c.args.words.now c.args.area.now c.args.l in
+    let S = snap_in c.args.db.now in
     within_other S c.args.from.0 c.args.ns c.args.name.0 _ _ c.in-Def.is c.in_enum.ensures

@@ -1,20 +1,21 @@
 use mathlib.Core.Path.{sym, ap, ◌∙◌}
-use Rattle.snapshot.specs.Layouts.{snap_of}
+use Rattle.std.specs.Prelude.{Some}
 use Rattle.snapshot.specs.Records.{scope_at}
 use Rattle.hir_def.specs.Entries.{entry_of}
 use Rattle.told_routes.proofs.Laws.{answers_as, entry_by}
+use Rattle.accept.specs.Opened.{snap_in}
 use Rattle.told_routes.proofs.names.in_module.Goals as goal
 
-pub returns-in_default : goal.returns-in_default
-returns-in_default c =
-    let S = snap_of c.args.words.now c.args.area.now c.args.l in
+pub returns-in_err-h : goal.returns-in_err-h
+returns-in_err-h c =
+    let S = snap_in c.args.db.now in
     answers_as (entry_by S c.args.from.0 c.args.ns c.args.m.0 c.args.name.0
-    (sym (ap (entry_of scope_at c.args.words.now) c.in_default.is) ∙ c.entry_named.ensures))
-    c.nothing.ensures
+    (sym (ap (entry_of scope_at c.args.db.now.records.words.now) c.in_err-h.was) ∙ c.entry_named.ensures))
+    c.from_residual.ensures
 
 pub returns : goal.returns
 returns c =
-    let S = snap_of c.args.words.now c.args.area.now c.args.l in
+    let S = snap_in c.args.db.now in
     answers_as (entry_by S c.args.from.0 c.args.ns c.args.m.0 c.args.name.0
-    (sym (ap (entry_of scope_at c.args.words.now) c.in-Some.is) ∙ c.entry_named.ensures))
-    (c.by_entry.ensures c.args.area.now)
+    (sym (ap (entry_of scope_at c.args.db.now.records.words.now) c.in_ok-h.was) ∙ c.entry_named.ensures))
+    (ap Some (c.by_entry.ensures c.args.db.now.area.now))

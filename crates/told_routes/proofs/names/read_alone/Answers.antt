@@ -1,26 +1,26 @@
 use mathlib.Core.Path.{sym, ap, ◌∙◌}
 use Rattle.std.specs.Prelude.{Some}
-use Rattle.snapshot.specs.Layouts.{snap_of}
 use Rattle.any_path.specs.Plain.{record_read}
 use Rattle.told_routes.proofs.Laws.{answers_as}
+use Rattle.accept.specs.Opened.{snap_in}
 use Rattle.told_routes.proofs.names.read_alone.Goals as goal
 
-pub returns-in-Some-Scope : goal.returns-in-Some-Scope
+pub returns-in_err-h : goal.returns-in_err-h
 unfolding record_read
-returns-in-Some-Scope c =
-    let S = snap_of c.args.words.now c.args.area.now c.args.l in
-    let read = c.in-Some-Scope.is ∙ ap Some c.in-Some-Scope.field-0-is in
-    answers_as (sym (ap (record_read S c.args.words.now) read) ∙ c.read_plain.ensures) (c.by_entry.ensures c.args.area.now)
+returns-in_err-h c =
+    let S = snap_in c.args.db.now in
+    answers_as (sym (ap (record_read S c.args.db.now.records.words.now) c.in_err-h.was) ∙ c.read_plain.ensures) c.from_residual.ensures
 
-pub returns-in-Some-Extern : goal.returns-in-Some-Extern
+pub returns-in-Scope : goal.returns-in-Scope
 unfolding record_read
-returns-in-Some-Extern c =
-    let S = snap_of c.args.words.now c.args.area.now c.args.l in
-    let read = c.in-Some-Extern.is ∙ ap Some c.in-Some-Extern.field-0-is in
-    answers_as (sym (ap (record_read S c.args.words.now) read) ∙ c.read_plain.ensures) c.by_extern.ensures
+returns-in-Scope c =
+    let S = snap_in c.args.db.now in
+    let read = c.in_ok-h.was ∙ ap Some c.in-Scope.is in
+    answers_as (sym (ap (record_read S c.args.db.now.records.words.now) read) ∙ c.read_plain.ensures) (ap Some (c.by_entry-its.ensures c.args.db.now.area.now))
 
-pub returns-in-None : goal.returns-in-None
+pub returns-in-Extern : goal.returns-in-Extern
 unfolding record_read
-returns-in-None c =
-    let S = snap_of c.args.words.now c.args.area.now c.args.l in
-    answers_as (sym (ap (record_read S c.args.words.now) c.in-None.is) ∙ c.read_plain.ensures) c.nothing.ensures
+returns-in-Extern c =
+    let S = snap_in c.args.db.now in
+    let read = c.in_ok-h.was ∙ ap Some c.in-Extern.is in
+    answers_as (sym (ap (record_read S c.args.db.now.records.words.now) read) ∙ c.read_plain.ensures) (ap Some c.by_extern-its.ensures)

@@ -1,44 +1,31 @@
-use mathlib.Core.Path.{ap}
+use Prim.Native.Nat.{ℕ}
+use mathlib.Core.Path.{◌≡◌, ap}
 use native.Mathlib.Omega.{arith}
-use Rattle.snapshot.specs.Layouts.{snap_of}
-use Rattle.nameable.specs.Paths.{reads}
-use Rattle.told_routes.proofs.Laws.{answers_as, next_later, next_plain, next_absolute, next_keyword}
+use Rattle.std.specs.Prelude.{Option}
+use Rattle.snapshot.specs.Records.{Snapshot}
+use Rattle.nameable.specs.Paths.{Path, reads}
+use Rattle.told_routes.specs.declared.Meaning.{Meaning}
+use Rattle.told_routes.specs.Routes.{Answers, first_path}
+use Rattle.told_routes.proofs.Laws.{answers_as, next_later, next_first, next_keyword}
 use Rattle.told_routes.proofs.names.read_name.Goals as goal
+
+-- what a path means is told of the one that it is
+read_as : (s : Snapshot) (from ns : ℕ) {p q : Path} {x : Option Meaning} → p ≡ q → Answers (reads s from ns p) x → Answers (reads s from ns q) x
+read_as s from ns e a = answers_as (ap (reads s from ns) e) a
 
 pub returns-then-k-gt0 : goal.returns-then-k-gt0
 unfolding reads
-returns-then-k-gt0 c =
-    let S = snap_of c.args.words.now c.args.area.now c.args.l in
-    λ p h.
-    answers_as
-    (ap (reads S c.args.from.0 c.args.ns)
-    (next_later c.args.kind c.args.k p c.args.name.0 c.if-k-gt0.true))
-    (c.read_after.ensures _ h)
+returns-then-k-gt0 c = λ p h. read_as _ _ _ (next_later _ _ p _ c.if-k-gt0.true) (c.read_after.ensures _ h)
 
-pub returns-then-kind : goal.returns-then-kind
-returns-then-kind c =
-    let S = snap_of c.args.words.now c.args.area.now c.args.l in
-    λ p h.
-    answers_as
-    (ap (reads S c.args.from.0 c.args.ns)
-    (next_plain c.args.kind c.args.k p c.args.name.0 (omega (arith, c.if-k-gt0.false)) c.if-kind.true))
-    c.read_alone.ensures
+pub returns-in-Plain : goal.returns-in-Plain
+unfolding first_path
+returns-in-Plain c = λ p h. read_as _ _ _ (next_first _ _ p _ (omega (arith, c.if-k-gt0.false)) c.in-Plain.is) c.read_alone.ensures
 
-pub returns-then-kind-2 : goal.returns-then-kind-2
-returns-then-kind-2 c =
-    let S = snap_of c.args.words.now c.args.area.now c.args.l in
-    λ p h.
-    answers_as
-    (ap (reads S c.args.from.0 c.args.ns)
-    (next_absolute c.args.kind c.args.k p c.args.name.0 (omega (arith, c.if-k-gt0.false)) c.if-kind.false c.if-kind-2.true))
-    c.read_absolute.ensures
+pub returns-in-Absolute : goal.returns-in-Absolute
+unfolding first_path
+returns-in-Absolute c = λ p h. read_as _ _ _ (next_first _ _ p _ (omega (arith, c.if-k-gt0.false)) c.in-Absolute.is) c.read_absolute.ensures
 
-pub returns : goal.returns
+pub returns-in-SelfModule : goal.returns-in-SelfModule
 unfolding reads
-returns c =
-    let S = snap_of c.args.words.now c.args.area.now c.args.l in
-    λ p h.
-    answers_as
-    (ap (reads S c.args.from.0 c.args.ns)
-    (next_keyword c.args.kind c.args.k p c.args.name.0 (omega (arith, c.if-k-gt0.false)) c.if-kind.false c.if-kind-2.false))
-    (c.read_after-2.ensures _ h)
+returns-in-SelfModule c =
+    λ p h. read_as _ _ _ (next_keyword _ _ p _ (omega (arith, c.if-k-gt0.false)) c.in-SelfModule.is) (c.read_after-in-SelfModule.ensures _ h)

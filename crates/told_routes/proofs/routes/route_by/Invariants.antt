@@ -1,13 +1,13 @@
 use Prim.Native.Nat.{ℕ}
 use mathlib.Core.Path.{◌≡◌}
-use Rattle.snapshot.specs.Layouts.{snap_of}
 use Rattle.hir_def.specs.Items.{types}
 use Rattle.nameable.specs.Paths.{keyword, reads, item_in}
 use Rattle.told_routes.specs.Routes.{keyword_by}
 use Rattle.told_routes.proofs.Walks.{Walked}
+use Rattle.accept.specs.Opened.{snap_in}
 use Rattle.told_routes.proofs.routes.route_by.Given as goal
 
 abbrev pub invariant-loop-k : goal.invariant-loop-k
 invariant-loop-k l =
-    (u : ℕ) → l.initial.here ≡ item_in (reads (snap_of l.words l.area l.l) l.from.0 types (keyword (keyword_by l.kind u)))
-    → Walked (snap_of l.words l.area l.l) l.from.0 l.ns l.kind u l.names l.count l.here l.route l.k
+    (u : ℕ) → l.initial.here ≡ item_in (reads (snap_in l.db) l.from.0 types (keyword (keyword_by l.kind u)))
+    → Walked (snap_in l.db) l.from.0 l.ns l.kind u l.names l.count l.here l.route l.k

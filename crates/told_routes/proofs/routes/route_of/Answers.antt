@@ -1,11 +1,11 @@
 use mathlib.Core.Path.{ap, ◌∙◌}
 use native.Mathlib.Omega.{arith}
-use Rattle.snapshot.specs.Layouts.{snap_of}
 use Rattle.nameable.specs.Paths.{Path, route_of}
 use Rattle.told_paths.specs.Tells.{padded}
 use Rattle.told_paths.specs.declared.ToldPath.{ToldPath}
 use Rattle.told_paths.proofs.Laws.{tell_count}
 use Rattle.told_routes.proofs.Walks.{told_by_lem}
+use Rattle.accept.specs.Opened.{snap_in}
 use Rattle.told_routes.proofs.routes.route_of.Goals as goal
 
 pub returns-then-t-gt-LIMIT : goal.returns-then-t-gt-LIMIT
@@ -16,7 +16,7 @@ returns-then-t-gt-LIMIT c =
 
 pub returns : goal.returns
 returns c =
-    let S = snap_of c.args.words.now c.args.area.now c.args.l in
+    let S = snap_in c.args.db.now in
     λ p e h.
     c.route_by.ensures
     ∙ ap (λ (q : Path). padded (route_of S c.args.from.0 c.args.ns q)) (told_by_lem p e h)

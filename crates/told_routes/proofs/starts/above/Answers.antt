@@ -1,33 +1,30 @@
 use mathlib.Core.Path.{◌≡◌, sym, ap, ◌∙◌}
 use native.Mathlib.Omega.{arith}
-use Rattle.snapshot.specs.Layouts.{snap_of}
 use Prim.Native.Nat.{◌+◌, ◌-◌}
 use Rattle.module_tree.proofs.Climbs.{some_number, none_number}
 use Rattle.told_routes.proofs.Laws.{above_means, above_here, above_gone, above_on, parent_below}
+use Rattle.accept.specs.Opened.{snap_in}
 use Rattle.told_routes.proofs.starts.above.Goals as goal
 
 pub loop-step-init : goal.loop-step-init
 loop-step-init c =
     let e : c.args.supers ≡ c.args.supers - 0 = omega arith in
-    (ap (λ k. above_means (snap_of c.args.words.now c.args.area.now c.args.l) k c.args.m.0) e, c.requires.1)
+    (ap (λ k. above_means (snap_in c.args.db.now) k c.args.m.0) e, c.requires)
 
 pub returns-in_err-p : goal.returns-in_err-p
 returns-in_err-p c =
-    let S = snap_of c.args.words.now c.args.area.now c.args.l in
+    let S = snap_in c.args.db.now in
     c.from_residual.ensures
     ∙ above_gone S c.loop-step.at.0 (c.args.supers - c.loop-step._step) (omega arith)
     (none_number _ c.parent.ensures c.in_err-p.was) ∙ sym c.loop-step.invariant.0
 
 pub module_around-at-requires : goal.module_around-at-requires
-module_around-at-requires c = (
-  c.requires.0,
-  parent_below c.args.words.now c.args.area.now c.args.l c.requires.0 c.loop-step.at.0 _ c.loop-step.invariant.1
-      (some_number _ c.parent.ensures c.in_ok-p.was),
-)
+module_around-at-requires c = parent_below c.args.db.now.records.words.now c.args.db.now.area.now c.args.db.now.records.layout c.args.db.now.reads c.loop-step.at.0 _ c.loop-step.invariant.1
+    (some_number _ c.parent.ensures c.in_ok-p.was)
 
 pub loop-step-preserved : goal.loop-step-preserved
 loop-step-preserved c =
-    let S = snap_of c.args.words.now c.args.area.now c.args.l in
+    let S = snap_in c.args.db.now in
     let e : c.args.supers - c.loop-step._step - 1 ≡ c.args.supers - (c.loop-step._step + 1) = omega arith in (
       c.loop-step.invariant.0
           ∙ (above_on S c.loop-step.at.0 (c.args.supers - c.loop-step._step) _ (omega arith) (some_number _ c.parent.ensures c.in_ok-p.was)
@@ -38,5 +35,5 @@ loop-step-preserved c =
 
 pub returns : goal.returns
 returns c =
-    let S = snap_of c.args.words.now c.args.area.now c.args.l in
+    let S = snap_in c.args.db.now in
     above_here S c.loop-step.at (c.args.supers - c.loop-step._step) (omega (arith, c.loop-step-test.false)) ∙ sym c.loop-step.invariant.0

@@ -1,10 +1,10 @@
 use mathlib.Core.Path.{◌≡◌}
-use Rattle.snapshot.specs.Layouts.{snap_of}
 use Prim.Native.Nat.{◌-◌, ◌<◌}
 use Rattle.told_routes.proofs.Laws.{above_means}
+use Rattle.accept.specs.Opened.{snap_in}
 use Rattle.told_routes.proofs.starts.above.Given as goal
 
 abbrev pub invariant-loop-step : goal.invariant-loop-step
 invariant-loop-step l =
-    (above_means (snap_of l.words l.area l.l) l.fn.supers l.initial.at.0
-    ≡ above_means (snap_of l.words l.area l.l) (l.fn.supers - l._step) l.at.0) × (l.at.0 < l.l.modules)
+    (above_means (snap_in l.db) l.fn.supers l.initial.at.0
+    ≡ above_means (snap_in l.db) (l.fn.supers - l._step) l.at.0) × (l.at.0 < l.db.records.layout.modules)

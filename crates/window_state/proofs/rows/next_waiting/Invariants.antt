@@ -5,4 +5,4 @@ use Rattle.window_state.specs.Words.{words_of}
 use Rattle.window_state.proofs.rows.next_waiting.Given as goal
 
 abbrev pub invariant-loop-turn : goal.invariant-loop-turn
-invariant-loop-turn l = (l.window < 8) × (l._turn ≤ 8) × (served (words_of l.windows) ≡ first_from (words_of l.windows) l.window (8 - l._turn))
+invariant-loop-turn l = (l.window.0 < 8) × (l._turn ≤ 8) × (served (words_of l.windows) ≡ first_from (words_of l.windows) l.window.0 (8 - l._turn))

@@ -6,4 +6,4 @@ pub returns : goal.returns
 returns c =
     let s = c.args in
     let l = rows_eight s.windows _ c.well_formed.0 in
-    word_waits s.windows s.window _ (omega (arith, l))
+    word_waits s.windows s.window.number _ (omega (arith, l, s.window.below))

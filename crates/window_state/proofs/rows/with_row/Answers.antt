@@ -6,4 +6,4 @@ use Rattle.window_state.proofs.rows.with_row.Goals as goal
 pub returns : goal.returns
 returns c =
     let l = rows_eight c.args.windows _ c.well_formed.0 in
-    words_put c.args.windows c.args.window empty_row (omega (arith, l)) c.args.row
+    words_put c.args.windows c.args.window.number empty_row (omega (arith, l, c.args.window.below)) c.args.row

@@ -7,6 +7,7 @@ use Rattle.window_state.proofs.serve.after_serving.Goals as goal
 
 pub returns : goal.returns
 returns c =
-    words_served _ c.with_row-served.result _
-    (c.with_row-served.ensures ∙ ap (λ (r : Row). with_row (words_of c.args.windows) c.args.window (row_words r))
-    c.empty_row-row.ensures)
+    rw c.next.ensures
+    (words_served _ c.with_row-served.result _
+    (c.with_row-served.ensures ∙ ap (λ (r : Row). with_row (words_of c.args.windows) c.args.window.number (row_words r))
+    c.empty_row-row.ensures))

@@ -1,58 +1,16 @@
-use mathlib.Core.Path.{refl}
-use Rattle.wording.specs.Text.{choose, meaning}
-use Rattle.wording.proofs.Laws.{told, told_last}
+use Rattle.wording.specs.Text.{meaning}
+use Rattle.wording.proofs.Laws.{choose_on}
 use Rattle.wording.proofs.text.meaning.Goals as goal
 
-pub returns-in-Words : goal.returns-in-Words
-unfolding meaning choose
-returns-in-Words c = told c.in-Words.is refl
-
-pub returns-in-Form : goal.returns-in-Form
-unfolding meaning choose
-returns-in-Form c = told c.in-Form.is refl
-
-pub returns-in-Range : goal.returns-in-Range
-unfolding meaning choose
-returns-in-Range c = told c.in-Range.is refl
-
-pub returns-in-Undefined : goal.returns-in-Undefined
-unfolding meaning choose
-returns-in-Undefined c = told c.in-Undefined.is refl
-
-pub returns-in-Repeated : goal.returns-in-Repeated
-unfolding meaning choose
-returns-in-Repeated c = told c.in-Repeated.is refl
-
-pub returns-in-Place : goal.returns-in-Place
-unfolding meaning choose
-returns-in-Place c = told c.in-Place.is refl
-
-pub returns-in-Count : goal.returns-in-Count
-unfolding meaning choose
-returns-in-Count c = told c.in-Count.is refl
-
-pub returns-in-Bytes : goal.returns-in-Bytes
-unfolding meaning choose
-returns-in-Bytes c = told c.in-Bytes.is refl
-
-pub returns-in-Rest : goal.returns-in-Rest
-unfolding meaning choose
-returns-in-Rest c = told c.in-Rest.is refl
-
-pub returns-in-Edition : goal.returns-in-Edition
-unfolding meaning choose
-returns-in-Edition c = told c.in-Edition.is refl
-
-pub returns-in_default : goal.returns-in_default
-returns-in_default c = told_last _ (record {
-  words = c.in_default.not-Words;
-  form = c.in_default.not-Form;
-  range = c.in_default.not-Range;
-  undefined = c.in_default.not-Undefined;
-  repeated = c.in_default.not-Repeated;
-  place = c.in_default.not-Place;
-  count = c.in_default.not-Count;
-  bytes = c.in_default.not-Bytes;
-  rest = c.in_default.not-Rest;
-  edition = c.in_default.not-Edition;
-})
+pub returns : goal.returns
+unfolding meaning
+returns c =
+    choose_on _ _ _ c.chosen.ensures
+    (choose_on _ _ _ c.chosen-t-9.ensures
+    (choose_on _ _ _ c.chosen-t-8.ensures
+    (choose_on _ _ _ c.chosen-t-7.ensures
+    (choose_on _ _ _ c.chosen-t-6.ensures
+    (choose_on _ _ _ c.chosen-t-5.ensures
+    (choose_on _ _ _ c.chosen-t-4.ensures
+    (choose_on _ _ _ c.chosen-t-3.ensures
+    (choose_on _ _ _ c.chosen-t-2.ensures c.chosen-t.ensures))))))))

@@ -1,10 +1,9 @@
-use mathlib.Core.Path.{ap, subst⁻¹}
+use mathlib.Core.Path.{subst⁻¹}
 use mathlib.Core.List.{List}
 use Prim.Native.Nat.{ℕ, ◌≤◌}
 use lib.ListN.{length}
 use native.Mathlib.Omega.{arith}
 use Rattle.printing.proofs.Laws.{put_two, put_as}
-use Rattle.wording.specs.Text.{labelled}
 use Rattle.wording.proofs.Laws.{meaning_short}
 use Rattle.wording.proofs.text.put_refusal.Goals as goal
 
@@ -15,5 +14,4 @@ put-requires c =
 
 pub returns : goal.returns
 returns c =
-    put_two (put_as (ap (labelled "refused ") c.number.ensures.same) c.put_labelled-a.ensures.put)
-    (put_two c.put_line-b.ensures.put (put_as c.meaning.ensures c.put.ensures))
+    put_two c.put_labelled-a.ensures.put (put_two c.put_line-b.ensures.put (put_as c.meaning.ensures c.put.ensures))
