@@ -13,6 +13,8 @@ pub data Each {A : Type 0} (P : A → Type 0) : List A → Type 0 where
   more : {x : A} {xs : List A} → P x → Each P xs → Each P (x ∷ xs)
 
 -- fields in their ranges, and every number below the count of what it names
+-- (clauses and no types: a record is read out of the words where it stands, and readers take its place; a place with such a fact would have to be
+-- made anew for each record that a loop or a lookup comes to)
 
 pub record NameFits (x : Name) : Type 0 where
   pub some : 1 ≤ x.bytes

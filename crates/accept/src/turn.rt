@@ -52,6 +52,7 @@ fn by_kind(
 }
 
 /// The record at a place, after one of the last kind.
+// `last` is a number, 0 before the first record: the definition `follows_of` compares numbers, and an `Option<Kind>` would be made one for it.
 pub fn turn(
     words: &[u32],
     area: &mut [u32],

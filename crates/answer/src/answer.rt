@@ -14,7 +14,8 @@ use snapshot::ids::Area;
 use snapshot::refusal::Refusal;
 
 // The report, in a work area that serves and is cleared.
-// The steps of any_answer and reach_answer over another report: a closure between them would have to carry what it leaves in the area.
+// As in `any_answer` and `reach_answer`, with another step between check and clear. Shared, that step would be a closure that writes to the area,
+// under a clause that says what it leaves there: longer than these three lines.
 fn find_path_within(words: &[u32], area: &mut Area, question: Question) -> Report
     ensures value { result ≡ report_of words.now area_limit question }
     ensures area_after { area.new ≡ zeros area_limit }

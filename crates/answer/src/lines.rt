@@ -15,6 +15,7 @@ use snapshot::ids::Area;
 use snapshot::refusal::Refusal;
 
 // The line, in a work area that serves and is cleared.
+// As `find_path_within`, with a line put into bytes between check and clear.
 fn line_within(words: &[u32], area: &mut Area, question: Question, out: &mut [u8]) -> usize
     requires { line_limit ≤ length out.old }
     ensures put { Put out.old 0 (line_of words.now question ++ bytes_of "\n") out.new result }

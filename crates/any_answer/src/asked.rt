@@ -42,6 +42,7 @@ fn answered(
 }
 
 /// The answer on checked words.
+// As `checked::report_on` and `reach::reach_on`, each with an answer of its own fields: shared, they would take what makes it of a refusal.
 pub(crate) fn any_on(
     words: &[u32],
     area: &mut Area,
@@ -51,8 +52,5 @@ pub(crate) fn any_on(
     requires { Judged words.now area.old c }
     ensures { result ≡ any_report words.now area_limit q }
 {
-    match answered(words, area, c, q) {
-        Ok(report) => report,
-        Err(why) => refused(why),
-    }
+    answered(words, area, c, q).unwrap_or_else(refused)
 }

@@ -21,10 +21,7 @@ fn entry_place(e: Option<usize>) -> usize
     ensures { (s : lists.Snapshot) (W : List ℕ) → (result ≡ place_in (option_map (as_named s) (entry_of scope_at W e)))
         × (result ≡ place_in (option_map extern_named (entry_of extern_at W e))) }
 {
-    match e {
-        Some(h) => h,
-        None => 0,
-    }
+    e.unwrap_or(0)
 }
 
 /// The place of the record by which the last name of the path of the row number i is read, 0 for a keyword. It is looked up again: a path

@@ -56,6 +56,7 @@ pub(crate) fn take_up(
 }
 
 /// The modules that paths mean which begin with a keyword or `::`.
+// That the area has room for all rows is a clause: the two runs and `shortest` take a slice of any length, and `Area` would ask for its own.
 pub fn run_keywords(records: &Records, area: &mut [u32], from: ModuleId) -> usize
     requires { Reads records.now.words.now area.old records.now.layout × (from.0 < records.now.layout.modules) × (row_at module_limit ≤ length area.old) }
     ensures { Grown records.now.layout.modules area.old 0 area.new result

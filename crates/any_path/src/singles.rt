@@ -1,4 +1,4 @@
-//! The modules that one name alone means.
+//! The modules that `::` and a name mean.
 ghost use Rattle.std.specs.Prelude.{false, ◌<◌};
 ghost use Rattle.snapshot.specs.Records.{extern_at};
 ghost use Rattle.snapshot.specs.Laid.{snap_by};

@@ -20,12 +20,12 @@ use crate_graph::prelude_of;
 use hir_def::Item;
 use hir_def::finds::{first_where, nearest};
 use hir_def::items::{item_of, same_item};
+use hir_def::spans::scopes;
 use item_scope::is_for;
 use module_tree::modules::map;
 use seen_entries::entries::seen;
 use seen_entries::privacy::block_step;
 use snapshot::ids::{DefinitionId, ModuleId, Name, Namespace};
-use snapshot::kind::Size;
 use snapshot::record::{prelude_target, scope_definition, scope_name, scope_ns};
 use snapshot::records::Records;
 
@@ -88,12 +88,7 @@ fn plain_in(
         (defined_item ns.0 d.0) m.0 }
 {
     let test = |h| is_plain_for(db, from, m, ns, d, h);
-    first_where(
-        db.records.layout.scope_base(),
-        Size::SCOPE,
-        db.records.layout.scopes,
-        test,
-    )
+    first_where(scopes(&db.records), test)
 }
 
 // The first in the viewer's scopes.

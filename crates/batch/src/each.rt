@@ -38,6 +38,7 @@ pub fn report_each(
 }
 
 /// Checks the words, writes the report of each question, and clears the work area.
+// As `answer::find_path_within`, with the loop over questions between check and clear.
 pub fn answer_each(words: &[u32], area: &mut Area, questions: &[u32], reports: &mut [u32])
     requires { report_size * (length questions.now / question_size) ≤ length reports.old }
     ensures area_after { area.new ≡ zeros area_limit }

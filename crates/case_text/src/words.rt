@@ -167,7 +167,7 @@ mod tests {
         Ok(())
     }
 
-    // As the test above, of what has no room: each is a call and a comparison.
+    // As the test above, with less room than words. Shared, the two would pass text, room and words, which is all that they hold.
     #[test]
     fn no_more_words_than_room(rt: HostRuntime) -> Result<(), Fail> {
         let words = words_of(rt.alloc(), b"1f 2 3 ", 2)?;

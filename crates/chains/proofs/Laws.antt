@@ -49,13 +49,6 @@ pub key_is : (W : List ℕ) (at : ℕ) {bytes n m : ℕ} → bytes ≡ pay_of (g
     → m ≡ mixed bytes (rows (λ i. get_or W (at + 1 + i) 0) 0 n) → m % keys ≡ name_key (name_at W at)
 key_is W at e f g = cc
 
--- one word more is cleared
-pub cleared_more : (A : List ℕ) (from i : ℕ) → i < length A → ((k : ℕ) → from ≤ k → k < i → get_or A k 0 ≡ 0)
-    → (k : ℕ) → from ≤ k → k < i + 1 → get_or (set A i 0) k 0 ≡ 0
-cleared_more A from i fits old k p q =
-    below_more (λ j. from ≤ j → get_or (set A i 0) j 0 ≡ 0) i (λ j r s. get_or-set_other A i j 0 0 (omega arith) ∙ old j s r)
-    (λ s. get_or-set_same A i 0 0 fits) k q p
-
 last_kept : (g h : ℕ → ℕ) (b n : ℕ) {c d : ℕ} → Last g b n c → d ≡ c → ((i : ℕ) → i < n → h i ≡ g i) → Last h b n d
 last_kept g h b n l e q =
     let w = l.within in

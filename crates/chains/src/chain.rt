@@ -38,9 +38,8 @@ pub fn clear(area: &mut [u32], from: usize, to: usize)
     requires { to ≤ length area.old }
     ensures { Cleared area.old area.new from to }
 {
-    // Not `fill`: the slice would need from ≤ to, which no caller owes.
-    for i in from..to {
-        area[i] = 0;
+    if from < to {
+        area[from..to].fill(0);
     }
 }
 

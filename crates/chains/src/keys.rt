@@ -5,7 +5,7 @@ ghost use Rattle.snapshot.specs.Records.{name_at};
 ghost use Rattle.chains.specs.Chains.{mixed, name_key, record_key, slot_of};
 
 use crate::chain::Chains;
-use snapshot::ids::ModuleId;
+use snapshot::ids::{DefinitionKind, ModuleId};
 use snapshot::kind::text_words;
 use snapshot::words::{field, payload};
 
@@ -40,7 +40,7 @@ pub fn record_key(words: &[u32], at: usize, fields: usize) -> usize
 pub fn module_slot(words: &[u32], at: usize) -> usize
     ensures { result ≡ slot_of words.now at }
 {
-    if payload(words, at) != 1 {
+    if payload(words, at) != DefinitionKind::Module as usize {
         return ModuleId::LIMIT;
     }
     field(words, at, 1)

@@ -15,6 +15,7 @@ use snapshot::refusal::Refusal;
 use wording::text::{put_asked, put_counts, put_refusal};
 
 // Whether a kind is a question's, for a path, for a path with its route or for a reach.
+// By numbers: `Kind` has the kinds of records alone, and `QuestionKind` stands in `printer`, on which this crate doesn't stand.
 fn asks(kind: u8) -> bool
     ensures { result ≡ asks kind }
 {

@@ -33,7 +33,6 @@ fn answered(
 }
 
 /// The answer to a question on checked words, which stay so: the next question can follow.
-// `reach_on` has these arms over its own answer; `unwrap_or_else` with a trait for how a refusal is told would be longer.
 pub fn report_on(
     words: &[u32],
     area: &mut Area,
@@ -43,8 +42,5 @@ pub fn report_on(
     requires { Judged words.now area.old c }
     ensures { Questioned words.now question c area.new result }
 {
-    match answered(words, area, c, question) {
-        Ok(report) => report,
-        Err(why) => refused(why.number()),
-    }
+    answered(words, area, c, question).unwrap_or_else(|why| refused(why.number()))
 }

@@ -13,6 +13,7 @@ ghost use Rattle.crate_graph.specs.Among.{among};
 use hir_def::Place;
 use hir_def::finds::{first_where, next_where};
 use hir_def::items::origin_of;
+use hir_def::spans::{dependencies, preludes};
 use snapshot::ids::{Crate, ModuleId};
 use snapshot::kind::Size;
 use snapshot::record::{
@@ -25,9 +26,7 @@ use snapshot::records::Records;
 fn is_extern(words: &[u32], h: usize, c: Crate, m: ModuleId) -> bool
     ensures { result ≡ is_extern c.0 m.0 (extern_at words.now h) }
 {
-    let owner = extern_owner(words, h);
-    let target = extern_target(words, h);
-    (owner.0 == c.0) & (target.0 == m.0)
+    (extern_owner(words, h) == c) & (extern_target(words, h) == m)
 }
 
 /// The last of the crate's externs that names the module: they are read backwards.
@@ -45,18 +44,13 @@ pub fn extern_of(records: &Records, c: Crate, m: ModuleId) -> Option<usize>
 }
 
 /// The prelude of a map.
-// `first_where` with the base, the size, the number and the test of a kind, as the lookups of `item_scope`, `import_map`, `read_back`,
-// `seen_entries` and `arrivals` are: no more is left of any.
+// `first_where` with the span and the test of a kind, as the lookups of `item_scope`, `import_map`, `read_back`, `seen_entries` and
+// `arrivals` are: no more is left of any.
 pub fn prelude_of(records: &Records, map: usize) -> Option<usize>
     ensures { (A : List ℕ) → entry_of prelude_at records.now.words.now result ≡ prelude_of (snap_by records.now A) map }
 {
     let test = |h| prelude_map(records.words, h) == map;
-    first_where(
-        records.layout.prelude_base(),
-        Size::PRELUDE,
-        records.layout.preludes,
-        test,
-    )
+    first_where(preludes(records), test)
 }
 
 /// Which dependencies of a crate: all, those that are in the sysroot, or the others.
@@ -72,8 +66,7 @@ pub enum Which {
 fn is_among(words: &[u32], h: usize, c: Crate, which: Which) -> bool
     ensures { result ≡ among c.0 which (dependency_at words.now h) }
 {
-    let owner = dependency_owner(words, h);
-    if owner.0 != c.0 {
+    if dependency_owner(words, h) != c {
         return false;
     }
     match which {
@@ -88,13 +81,7 @@ pub fn next_dependency(records: &Records, k: usize, c: Crate, which: Which) -> O
     ensures { NextOf (among c.0 which) dependency_at dependency_size records.now.words.now (dependency_base records.now.layout) records.now.layout.dependencies k result }
 {
     let test = |h| is_among(records.words, h, c, which);
-    next_where(
-        records.layout.dependency_base(),
-        Size::DEPENDENCY,
-        records.layout.dependencies,
-        k,
-        test,
-    )
+    next_where(dependencies(records), k, test)
 }
 
 // Whether the dependency with its head at a place is one of the crate's, in the sysroot, of that origin.
@@ -103,21 +90,16 @@ fn is_lang_sysroot(records: &Records, h: usize, c: Crate, lang: usize) -> bool
         → result ≡ (is_dependency c.0 (dependency_at records.now.words.now h) && is_lang_sysroot (snap_by records.now A) lang
         (dependency_at records.now.words.now h)) }
 {
-    let owner = dependency_owner(records.words, h);
     let inside = dependency_sysroot(records.words, h) == 1;
     let origin = origin_of(records, dependency_crate(records.words, h));
-    (owner.0 == c.0) & (inside & (origin == lang))
+    (dependency_owner(records.words, h) == c) & (inside & (origin == lang))
 }
 
 /// The first of the crate's sysroot dependencies whose origin has that number.
+// `lang` is the number of a `CrateOrigin`, and no enum: a public parameter that takes any number may not take fewer.
 pub fn lang_of(records: &Records, c: Crate, lang: usize) -> Option<usize>
     ensures { (A : List ℕ) → entry_of dependency_at records.now.words.now result ≡ lang_of (snap_by records.now A) c.0 lang }
 {
     let test = |h| is_lang_sysroot(records, h, c, lang);
-    first_where(
-        records.layout.dependency_base(),
-        Size::DEPENDENCY,
-        records.layout.dependencies,
-        test,
-    )
+    first_where(dependencies(records), test)
 }

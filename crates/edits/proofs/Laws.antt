@@ -4,7 +4,7 @@ use mathlib.Core.Path.{◌≡◌, refl, sym, ◌∙◌, ap, subst}
 use mathlib.Core.List.{List, ◌++◌}
 use mathlib.Core.Bool.{true, false}
 use native.Mathlib.Omega.{arith}
-use lib.ListN.{length, take, drop, replicate}
+use lib.ListN.{length, take, replicate}
 use lib.Seq.{length-take-le}
 use borrow.Author.Tests.{lt-ltb, le-ltb}
 use Rattle.snapshot.specs.Records.{Snapshot, Scope}
@@ -14,11 +14,11 @@ use Rattle.snapshot.specs.Limits.{area_limit}
 use Rattle.snapshot.specs.Refusals.{area_refusal, words_refusal, entry_refusal}
 use Rattle.snapshot.specs.Sizes.{scope_size}
 use Rattle.check_rules.specs.Verdict.{refuse, accept, verdict}
-use Rattle.std.specs.Prelude.{Ok, Err}
+use Rattle.std.specs.Prelude.{Result, Ok, Err}
 use Rattle.snapshot.specs.Refusals.{refusal_number}
 use Rattle.snapshot.specs.declared.refusal.Refusal.{Refusal}
 use Rattle.snapshot.specs.declared.refusal.Refusal.TheVariants.{Area, Words}
-use Rattle.accept.specs.Post.{Checks, check_of}
+use Rattle.accept.specs.Post.{Checked, Checks, check_of}
 use Rattle.accept.specs.declared.check.Refused.{Refused}
 use Rattle.answer.specs.Answers.{zeros, area_after}
 use Rattle.edit_rules.specs.Entries.{scope_words, is_named, scopes_end, entry_place, inserted, cut}
@@ -29,7 +29,7 @@ use Rattle.scope_edits.proofs.Removed.{absent, present}
 use Rattle.scope_edits.proofs.Inserted.{end_within}
 use Rattle.scope_edits.proofs.Edited.{add_room, add_small, add_longer}
 use Rattle.edits.specs.Edits.{number_in, count_after, words_after, Edits, EditsIn, Opens}
-use Rattle.edits.specs.declared.edits.Edited.{Edited}
+use Rattle.counts.specs.Counts.{Counted}
 
 -- a refusal
 pub edits_not : (W : List ℕ) (n k : ℕ) (e : Edit) → e ≡ refused_by k → Edits W n e W (record { number = k; count = n })
@@ -84,36 +84,51 @@ pub of_large : (area : ℕ) (W : List ℕ) (n : ℕ) (o : Operation) → area_li
 unfolding edit_of
 of_large area W n o h = rw (edit_of, le-ltb _ _ h)
 
--- the check before an edit, in the work area A₀, which leaves A
+-- the check's answer, without the place
+abbrev pub placeless : Checked → Result Layout Refusal
+placeless (Err e) = Err e.why
+placeless (Ok l) = Ok l
 
-module _ (W A₀ : List ℕ) (n : ℕ) where
-  pub opens_small : length A₀ < area_limit → Opens W n (length A₀) (Err Area)
-  opens_small h o = of_small (length A₀) W n o h
+-- the check before an edit, in a work area that serves
 
-  module _ (h : area_limit ≤ length A₀) where
-    pub opens_short : length W < n → Opens W n (length A₀) (Err Words)
-    opens_short g o = of_large (length A₀) W n o h ∙ within_not W n o g
+module _ (W : List ℕ) (n : ℕ) where
+  pub opens_short : length W < n → Opens W n area_limit (Err Words)
+  opens_short g o = of_large area_limit W n o (omega arith) ∙ within_not W n o g
 
-    pub opens_refused : (A : List ℕ) (e : Refused) → n ≤ length W → Checks (take n W) A₀ A (Err e) → Opens W n (length A₀) (Err e.why)
+  module _ (A₀ A : List ℕ) (h : area_limit ≤ length A₀) (g : n ≤ length W) where
+    serving : check_of (length A₀) (take n W) ≡ verdict (take n W)
     unfolding check_of
-    opens_refused A e g p =
-        λ o. of_large (length A₀) W n o h ∙ within_by W n o g ∙ by_refusal W n o (refusal_number e.why) e.at (p.same ∙ rw (check_of, le-ltb _ _ h))
+    serving = rw (check_of, le-ltb (length A₀) area_limit h)
 
-    pub opens_checked : (A : List ℕ) (l : Layout) → n ≤ length W → Checks (take n W) A₀ A (Ok l) → Opens W n (length A₀) (Ok l)
-    unfolding check_of
-    opens_checked A l g p = (h, (g, (A, record { same = sym (p.same ∙ rw (check_of, le-ltb _ _ h)); tables = p.tables })))
+    opens_refused : (e : Refused) → Checks (take n W) A₀ A (Err e) → Opens W n (length A₀) (Err e.why)
+    opens_refused e p =
+        λ o. of_large (length A₀) W n o h ∙ within_by W n o g ∙ by_refusal W n o (refusal_number e.why) e.at (p.same ∙ serving)
 
-    pub cleared : (A B : List ℕ) → length A ≡ length A₀ → drop area_limit A ≡ drop area_limit A₀ → B ≡ area_after A → B ≡ area_after A₀
-    unfolding area_after
-    cleared A B l e z =
-        let g : area_limit ≤ length A = omega arith in
-        z ∙ rw (area_after, le-ltb _ _ g, le-ltb _ _ h, e)
+    opens_accepted : (l : Layout) → Checks (take n W) A₀ A (Ok l) → Opens W n (length A₀) (Ok l)
+    opens_accepted l p = (h, (g, (A, record { same = sym (p.same ∙ serving); tables = p.tables })))
+
+    pub opens_checked : (c : Checked) → Checks (take n W) A₀ A c → Opens W n (length A₀) (placeless c)
+    opens_checked (Err e) p = opens_refused e p
+    opens_checked (Ok l) p = opens_accepted l p
+
+    -- of an area that is as long as it must be
+    pub opens_front : length A₀ ≡ area_limit → (c : Checked) → Checks (take n W) A₀ A c → Opens W n area_limit (placeless c)
+    opens_front z c p = subst (λ k. Opens W n k (placeless c)) z (opens_checked c p)
+
+  -- in any work area
+
+  pub opens_small : (area : ℕ) → area < area_limit → Opens W n area (Err Area)
+  opens_small area h o = of_small area W n o h
+
+  pub opens_large : (area : ℕ) → area_limit ≤ area → (r : Result Layout Refusal) → Opens W n area_limit r → Opens W n area r
+  opens_large area h (Err k) p = λ o. of_large area W n o h ∙ sym (of_large area_limit W n o (omega arith)) ∙ p o
+  opens_large area h (Ok l) p = (h, p.1)
 
 module _ (W A₀ : List ℕ) (n : ℕ) (A : List ℕ) (a : A ≡ area_after A₀) (o : Operation) where
   pub edit_not : (k : Refusal) → Opens W n (length A₀) (Err k) → EditsIn W n A₀ o W A (record { number = refusal_number k; count = n })
   edit_not k p = record { edit = edits_not W n (refusal_number k) _ (p o); area = a }
 
-  pub edit_done : (l : Layout) → Opens W n (length A₀) (Ok l) → (X : List ℕ) (r : Edited)
+  pub edit_done : (l : Layout) → Opens W n (length A₀) (Ok l) → (X : List ℕ) (r : Counted)
       → Edits W n (edit_by (take n W) (length W) o (verdict (take n W))) X r → EditsIn W n A₀ o X A r
   edit_done l q X r d = record { edit = subst (λ y. Edits W n y X r) (sym (of_large (length A₀) W n o q.0 ∙ within_by W n o q.1.0)) d; area = a }
 

@@ -6,8 +6,8 @@ use Rattle.snapshot.specs.declared.layout.Layout.{Layout}
 use Rattle.snapshot.specs.declared.refusal.Refusal.{Refusal}
 use Rattle.accept.specs.Post.{Reads}
 use Rattle.answer.specs.Answers.{zeros, area_after}
+use Rattle.counts.specs.Counts.{Counted}
 use Rattle.edit_rules.specs.Edits.{Edit, refused_by, edited, Operation, edit_of}
-use Rattle.edits.specs.declared.edits.Edited.{Edited}
 
 -- the number of the refusal, 0 for none
 unfoldable pub number_in : Edit → ℕ
@@ -25,18 +25,13 @@ words_after W (refused_by k) = W
 words_after W (edited S) = S ++ zeros (length W - length S)
 
 -- W₀ is the slice before the edit, with a snapshot of n words, and W after it
-pub record Edits (W₀ : List ℕ) (n : ℕ) (e : Edit) (W : List ℕ) (r : Edited) : Type 0 where
+pub record Edits (W₀ : List ℕ) (n : ℕ) (e : Edit) (W : List ℕ) (r : Counted) : Type 0 where
   pub number : r.number ≡ number_in e
   pub count : r.count ≡ count_after n e
   pub words : W ≡ words_after W₀ e
 
--- the answer for a new count, or for a refusal that leaves n words
-abbrev pub told : ℕ → Result ℕ Refusal → Edited
-told n (Ok m) = record { number = 0; count = m }
-told n (Err k) = record { number = refusal_number k; count = n }
-
 -- A₀ is the work area before the edit, A after it
-pub record EditsIn (W₀ : List ℕ) (n : ℕ) (A₀ : List ℕ) (o : Operation) (W A : List ℕ) (r : Edited) : Type 0 where
+pub record EditsIn (W₀ : List ℕ) (n : ℕ) (A₀ : List ℕ) (o : Operation) (W A : List ℕ) (r : Counted) : Type 0 where
   pub edit : Edits W₀ n (edit_of (length A₀) W₀ n o) W r
   pub area : A ≡ area_after A₀
 

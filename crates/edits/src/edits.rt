@@ -1,61 +1,48 @@
 //! An entry added to a snapshot, or removed from it, in the words that the caller lends.
 //! The words are lent with room at their end: the snapshot is the first `count`, and no Vec could grow, for want of a heap.
 ghost use Rattle.std.specs.Prelude.{◌≡◌, List, ℕ, ◌≤◌, length, take};
+ghost use Rattle.snapshot.specs.Limits.{area_limit};
 ghost use Rattle.snapshot.specs.Records.{Snapshot};
 ghost use Rattle.check_rules.specs.Verdict.{verdict, accept};
 ghost use Rattle.accept.specs.Post.{Reads};
 ghost use Rattle.answer.specs.Answers.{area_after};
+ghost use Rattle.counts.specs.Counts.{told};
 ghost use Rattle.edit_rules.specs.Entries.{entry_of};
 ghost use Rattle.edit_rules.specs.Edits.{adding, removing, edit_by};
-ghost use Rattle.edits.specs.Edits.{Edits, EditsIn, Opens, told};
+ghost use Rattle.edits.specs.Edits.{Edits, EditsIn, Opens};
 
 use accept::check::check;
-use answer::area::clear_front;
+use answer::area::clear;
 use scope_edits::entries::{add_fault, record_of};
 use scope_edits::moves::{insert, remove};
 use scope_edits::places::{EntryKey, entry_place, scopes_end};
-use snapshot::ids::WordCount;
+use snapshot::ids::Area;
 use snapshot::kind::Size;
 use snapshot::layout::Layout;
 use snapshot::refusal::Refusal;
 
-/// The number by which an edit is refused, 0 for none, and how many words the snapshot has after it.
-// The C interface takes a number and a count.
-#[derive(Clone, Copy)]
-pub struct Edited {
-    pub number: usize,
-    pub count: usize,
-}
-
-// The new count, or a refusal that leaves so many words.
-fn told(count: usize, r: Result<usize, Refusal>) -> Edited
-    ensures { result ≡ told count r }
-{
-    match r {
-        Ok(count) => Edited { number: 0, count },
-        Err(why) => Edited {
-            number: why.number(),
-            count,
-        },
-    }
-}
-
-// The check of the first words, so many, in a work area that is cleared after it.
+// The check of the first words, so many.
 // In all edits `count` words are the snapshot and those past them room to grow into, so the slice is longer than the count.
+fn check_first(words: &[u32], count: usize, area: &mut Area) -> Result<Layout, Refusal>
+    ensures { Opens words.now count area_limit result }
+{
+    if words.len() < count {
+        return Err(Refusal::Words);
+    }
+    Ok(check(&words[..count], area)?)
+}
+
+// The same, in a work area that is cleared after it.
 fn opened(words: &[u32], count: usize, area: &mut [u32]) -> Result<Layout, Refusal>
     ensures opens { Opens words.now count (length area.old) result }
     ensures area_after { area.new ≡ area_after area.old }
 {
-    if area.len() < WordCount::AREA {
+    let Some(front) = area.first_chunk_mut() else {
         return Err(Refusal::Area);
-    }
-    if words.len() < count {
-        clear_front(area);
-        return Err(Refusal::Words);
-    }
-    let c = check(&words[..count], area);
-    clear_front(area);
-    Ok(c?)
+    };
+    let r = check_first(words, count, front);
+    clear(front);
+    r
 }
 
 // Adds an entry to an accepted snapshot; answers the new count.
@@ -77,8 +64,12 @@ fn add_accepted(
     Ok(count + Size::SCOPE)
 }
 
-// The same, of words that are checked first.
-fn add_checked(
+/// Adds an entry to the snapshot in the first words, so many: module, namespace, name, definition, visibility and its number,
+/// declared, bits. Its record is written after the last scope record; where there is none, before the first record of a higher kind, or at the
+/// end; the words after it move up, and all past the new end are zero. Answers the new count, or why the edit is refused, with the words
+/// unchanged and the count as before: 20 a small work area, 30 to 36 and 43 the snapshot, 30 also more words than there are, 32, 33 and
+/// 35 the entry, 47 a name that is there already, 48 no room. The work area is left as `find_path` leaves it.
+pub fn add_entry(
     words: &mut [u32],
     count: usize,
     area: &mut [u32],
@@ -89,23 +80,6 @@ fn add_checked(
 {
     let l = opened(words, count, area)?;
     add_accepted(words, count, l, entry)
-}
-
-/// Adds an entry to the snapshot in the first words, so many: module, namespace, name, definition, visibility and its number,
-/// declared, bits. Its record is written after the last scope record; where there is none, before the first record of a higher kind, or at the
-/// end; the words after it move up, and all past the new end are zero. Answers the new count and 0, or the number by which the edit
-/// is refused, with the words unchanged: 20 a small work area, 30 to 36 and 43 the snapshot, 30 also more words than there are, 32, 33 and
-/// 35 the entry, 47 a name that is there already, 48 no room. The work area is left as `find_path` leaves it.
-pub fn add_entry(
-    words: &mut [u32],
-    count: usize,
-    area: &mut [u32],
-    entry: &[u32; Size::SCOPE],
-) -> Edited
-    ensures { EditsIn words.old count area.old (adding (entry_of entry.now)) words.new
-        area.new result }
-{
-    told(count, add_checked(words, count, area, entry))
 }
 
 // Removes an entry from an accepted snapshot; answers the new count.
@@ -122,8 +96,9 @@ fn remove_accepted(words: &mut [u32], count: usize, key: EntryKey) -> Result<usi
     Ok(count - Size::SCOPE)
 }
 
-// The same, of words that are checked first.
-fn remove_checked(
+/// Removes the entry of a key from the snapshot in the first words, so many: the words after its record move
+/// down, and all past the new end are zero. Answers as `add_entry` does, with 47 for a name that isn't there.
+pub fn remove_entry(
     words: &mut [u32],
     count: usize,
     area: &mut [u32],
@@ -134,12 +109,4 @@ fn remove_checked(
 {
     opened(words, count, area)?;
     remove_accepted(words, count, key)
-}
-
-/// Removes the entry of a key from the snapshot in the first words, so many: the words after its record move
-/// down, and all past the new end are zero. Answers as `add_entry` does, with 47 for a name that isn't there.
-pub fn remove_entry(words: &mut [u32], count: usize, area: &mut [u32], key: EntryKey) -> Edited
-    ensures { EditsIn words.old count area.old (removing key.owner key.ns key.name) words.new area.new result }
-{
-    told(count, remove_checked(words, count, area, key))
 }

@@ -40,6 +40,7 @@ use any_answer::numbers::any_path_in;
 use asked::asked::find_path_checked;
 use asked::each::find_paths_checked;
 use batch::batch::find_paths;
+use counts::tell;
 use edits::edits::{add_entry, remove_entry};
 use imports::list::import_list;
 use join::join::join;
@@ -302,8 +303,7 @@ pub extern "C" fn kelumavor_add_entry(
         words.new area.new (record { number = result; count = count.new }) }
 {
     let r = add_entry(words, *count, area, entry);
-    *count = r.count;
-    r.number
+    tell(r, count)
 }
 
 /// Removes the entry of a module, a namespace and a name, and answers as `kelumavor_add_entry` does, with 47 for a name that isn't there.
@@ -321,8 +321,7 @@ pub extern "C" fn kelumavor_remove_entry(
 {
     let key = EntryKey { owner, ns, name };
     let r = remove_entry(words, *count, area, key);
-    *count = r.count;
-    r.number
+    tell(r, count)
 }
 
 /// Writes the import records of a crate, built from the maps, to the target, and their number of words to the count; what stands past
@@ -338,9 +337,9 @@ pub extern "C" fn kelumavor_import_list(
     ensures { ListsIn words.now area.old krate target.old target.new
         area.new (record { number = result; count = count.new }) }
 {
+    *count = 0;
     let r = import_list(words, area, Crate(krate), target);
-    *count = r.count;
-    r.number
+    tell(r, count)
 }
 
 /// Writes the words of two snapshots joined to the target, and their number to the count; what stands past them stays. Answers 0, or the
@@ -357,9 +356,9 @@ pub extern "C" fn kelumavor_join(
     ensures { JoinsIn first.now second.now area.old target.old target.new
         area.new (record { number = result; count = count.new }) }
 {
+    *count = 0;
     let r = join(first, second, area, target);
-    *count = r.count;
-    r.number
+    tell(r, count)
 }
 
 /// Leaves in the work area the numbers that the names and definitions of the second snapshot have in the two joined, for `kelumavor_new_name` and

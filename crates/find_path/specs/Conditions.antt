@@ -27,6 +27,7 @@ pub record Prepared (W A : List ℕ) (l : Layout) (x : FindPathCtx) : Type 0 whe
   pub limit : x.max_len ≤ path_limit
 
 -- an item that can be asked for
+-- (a clause and no type: `Item` is made of a question or of a record, and is known only beside the layout of the words that it is asked of)
 abbrev pub Asked : Layout → Item → Type 0
 Asked l item = Known l item × (ns_of item ≤ 2)
 

@@ -4,11 +4,12 @@
 pub use path_choices::Choice;
 use snapshot::ids::{Crate, DefinitionId, ModuleId};
 
-// What is set once for a question, after the Rust's `FindPathCtx` and its config; `fresh` is old names last; `own` is the module asked for, +1,
-// or 0 where the item is no module; `max_len` is the length left at the start; `prefix` is the question's number.
+// What is set once for a question, after the Rust's `FindPathCtx` and its config; `fresh` is old names last; `max_len` is the length left at
+// the start.
 // The flags are the settings of the Rust's context: each is a value that rules test, and none says whether another field holds.
-// `prefix` is a number as it came: the faults have refused the others, and an enum would need a default that is never met.
-// `own` is compared with what a charge looks for, which is a word of the report for C.
+// `prefix` is the question's number as it came: the faults have refused the others, and an enum would need a default that is never met.
+// `own` is the module asked for, +1, or 0 where the item is no module. It is never C's: `sought_of` compares it with the number of the module
+// that a charge looks for, and that number becomes a word of the report. As an `Option` it would be made a number at each charge.
 #[derive(Clone, Copy)]
 pub struct FindPathCtx {
     pub prefix: usize,
@@ -28,7 +29,8 @@ pub struct FindPathCtx {
 
 // The fuel left, the charges so far, and whether a charge found no fuel. Of the first that found none: the length left, and the module
 // that it looked for, +1, or 0 for the question's own item or its enum.
-// `empty`, `left` and `sought` are words of the report for C, 0 where no charge failed: an `Option` of them would be taken apart again there.
+// No `Option` of `left` and `sought`: `drained`, `filled` and the theorems over them are stated over these five fields, and a report for C has each
+// of the three as a word, 0 where no charge failed.
 #[derive(Clone, Copy)]
 pub struct Tank {
     pub fuel: usize,
@@ -57,7 +59,7 @@ pub struct Query {
     pub limit: usize,
 }
 
-// A question.
+// What is asked, with the fuel that its charges may take.
 #[derive(Clone, Copy)]
 pub struct Question {
     pub query: Query,

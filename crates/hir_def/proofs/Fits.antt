@@ -24,7 +24,9 @@ use Rattle.hir_def.specs.Items.{definition_of, item_of, home_of}
 use Rattle.hir_def.specs.ItemScope.{name_of, names_of, is_fresh, preferred, get}
 use Rattle.hir_def.specs.Nameres.{prelude_of, extern_of, dependencies_of, lang_of}
 use Rattle.hir_def.specs.Entries.{Known, Meets}
+use Rattle.hir_def.specs.Spans.{Covers}
 use Rattle.hir_def.specs.declared.Item.{Item}
+use Rattle.hir_def.specs.declared.Span.{Span}
 use Rattle.hir_def.specs.declared.Item.TheVariants.{Mod, Def}
 use Rattle.hir_def.proofs.Found.{each_first, each_select}
 use Rattle.hir_def.proofs.Fresh.{preferred_has}
@@ -81,6 +83,11 @@ module _ (W A : List ℕ) (l : Layout) (r : Reads W A l) where
   -- the scope record of a number
   pub scope_fits : {j h b : ℕ} → j < l.scopes → b ≡ scope_base l → h ≡ b + scope_size * j → ScopeFits (counts_in l) (scope_at W h)
   scope_fits {j} i eb eh = subst (λ h. ScopeFits (counts_in l) (scope_at W h)) (sym (eh ∙ ap (λ x. x + scope_size * j) eb)) (scope_read W A l valid j i)
+
+  pub spanned_fits : {s : Span} {j : ℕ} → Covers s (scope_base l) scope_size l.scopes → j < s.count
+      → ScopeFits (counts_in l) (scope_at W (s.base + s.size * j))
+  spanned_fits {s} {j} at i =
+      scope_fits {j = j} (subst (λ n. j < n) at.counts i) at.starts (ap (λ z. s.base + z * j) at.sized)
 
   -- the record that an enumeration meets
   pub module_meets : {p : Scope → Bool} {k j h : ℕ} → Meets p scope_at scope_size W (scope_base l) l.scopes k j h

@@ -1,5 +1,6 @@
 -- A search by a test that answers as q does finds what q finds.
 use Rattle.hir_def.specs.declared.Place.{Place}
+use Rattle.hir_def.specs.declared.Span.{Span}
 use Prim.Native.Nat.{ℕ, zero, suc, ◌+◌, ◌-◌, ◌*◌, ◌≤◌, ◌<◌}
 use mathlib.Core.Path.{◌≡◌, refl, sym, ◌∙◌, ap, subst}
 use mathlib.Core.List.{List, ◌∷◌}
@@ -9,7 +10,7 @@ use native.Mathlib.Omega.{arith}
 use native.Mathlib.Nat.{add-zero}
 use Rattle.snapshot.specs.Ids.{plus_one}
 use Rattle.snapshot.specs.Lists.{rows}
-use Rattle.snapshot.specs.Layouts.{snap_of}
+use Rattle.snapshot.specs.Layouts.{records_of, snap_of}
 use Rattle.snapshot.specs.Records.{Scope, scope_at}
 use Rattle.snapshot.specs.declared.ids.ModuleId.{ModuleId}
 use Rattle.snapshot.specs.declared.layout.Layout.{Layout}
@@ -25,6 +26,7 @@ use Rattle.hir_def.proofs.Climbs.{some_number, none_number}
 use Rattle.hir_def.proofs.Ancestors.{first_here, first_end, first_on}
 use Rattle.hir_def.specs.Finds.{first_of, reads_of, first_some}
 use Rattle.hir_def.specs.Entries.{entry_of, NextOf}
+use Rattle.hir_def.specs.Spans.{Covers}
 use Rattle.hir_def.specs.Tests.{PassedBy, MeetsBy, NextBy, FirstBy, Outwards}
 use Rattle.hir_def.proofs.Lookups.{Came, next_start, next_hit, next_miss, next_end, first_hit, first_miss, first_none, reads_hit, reads_miss, reads_none}
 
@@ -111,6 +113,29 @@ module _ {R : Type 0} (q : R → Bool) (f : List ℕ → ℕ → R) (W : List �
         first_by None m,
         reads_none q (λ i. f W (base + size * i)) all_reads n n (reads_to n (omega arith) m) (omega arith),
       )
+
+-- over a span, what is found is found among the records that it covers
+pub over : (P : ℕ → Bool → Type 0) {s : Span} {base size n : ℕ} → Covers s base size n → (k : ℕ) (r : Option Place)
+    → NextBy P s.size s.base s.count k r → NextBy P size base n k r
+over P {s} {base} {size} {n} at k r x =
+    subst (λ b. NextBy P size b n k r) at.starts
+    (subst (λ z. NextBy P z s.base n k r) at.sized (subst (λ c. NextBy P s.size s.base c k r) at.counts x))
+
+module _ {R : Type 0} (q : R → Bool) (f : List ℕ → ℕ → R) (W : List ℕ) {P : ℕ → Bool → Type 0} {s : Span} {base size n : ℕ} (at : Covers s base size n)
+    (agree : (h : ℕ) (t : Bool) → P h t → t ≡ q (f W h)) where
+  pub next_in : (k : ℕ) (r : Option Place) → NextBy P s.size s.base s.count k r → NextOf q f size W base n k r
+  next_in k r x = next_by q f W {P = P} size n refl agree k r (over P at k r x)
+
+  pub first_in : (e : Option ℕ) → FirstBy P s.size s.base s.count e → entry_of f W e ≡ first_of q (rows (λ i. f W (base + size * i)) 0 n)
+  first_in e x =
+      first_by q f W {P = P} size n at.starts agree e (subst (λ z. FirstBy P z s.base n e) at.sized (subst (λ c. FirstBy P s.size s.base c e) at.counts x))
+
+-- the records of a span
+pub spanned : {R : Type 0} (f : List ℕ → ℕ → R) (W : List ℕ) {s : Span} {base size n : ℕ} → Covers s base size n
+    → records_of f s.size W s.base s.count ≡ records_of f size W base n
+spanned f W {s} {base} {size} {n} at =
+    ap (λ c. records_of f s.size W s.base c) at.counts ∙ ap (λ z. records_of f z W s.base n) at.sized
+    ∙ ap (λ b. records_of f size W b n) at.starts
 
 -- a search outwards
 module _ {F : ModuleId → Option ℕ → Type 0} {S : ModuleId → Option ModuleId → Type 0} {W : List ℕ} {f : ℕ → Option Scope} {step : ℕ → ℕ} {from : ℕ}

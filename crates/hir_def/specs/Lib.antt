@@ -5,3 +5,4 @@ pub mod Nameres
 pub mod ImportMap
 pub mod Entries
 pub mod Tests
+pub mod Spans

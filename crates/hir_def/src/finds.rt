@@ -1,5 +1,5 @@
-//! Finding: among the records of one kind, n of one size from a place on, and among a module and those around it.
-ghost use Rattle.std.specs.Prelude.{◌≡◌, List, ◌∷◌, ℕ, ◌+◌, ◌*◌, ◌^◌, ◌<◌, ◌≤◌};
+//! Finding: among the records of a kind, and among a module and those around it.
+ghost use Rattle.std.specs.Prelude.{◌≡◌, List, ◌∷◌, ℕ, ◌+◌, ◌*◌, ◌<◌, ◌≤◌};
 ghost use Rattle.std.specs.Prelude.{Option, Some};
 ghost use Rattle.snapshot.specs.Records.{Scope, scope_at};
 ghost use Rattle.hir_def.specs.Entries.{entry_of};
@@ -7,23 +7,16 @@ ghost use Rattle.hir_def.specs.Finds.{first_some};
 ghost use Rattle.hir_def.specs.Nameres.{steps};
 ghost use Rattle.hir_def.specs.Tests.{NextBy, FirstBy, Outwards};
 
-use crate::Place;
+use crate::{Place, Span};
 use snapshot::ids::ModuleId;
 
 /// The next record whose head passes the test, from the number k on.
-pub fn next_where<F: Fn(usize) -> bool>(
-    base: usize,
-    size: usize,
-    n: usize,
-    k: usize,
-    test: F,
-) -> Option<Place>
-    requires fits { base + size * n < 2 ^ 32 }
-    requires takes { (i : ℕ) → i < n → F.pre test (base + size * i) }
-    ensures { NextBy (F.post test) size base n k result }
+pub fn next_where<F: Fn(usize) -> bool>(span: Span, k: usize, test: F) -> Option<Place>
+    requires takes { (i : ℕ) → i < span.count → F.pre test (span.base + span.size * i) }
+    ensures { NextBy (F.post test) span.size span.base span.count k result }
 {
-    for j in k..n {
-        let h = base + size * j;
+    for j in k..span.count {
+        let h = span.base + span.size * j;
         if test(h) {
             return Some(Place { number: j, head: h });
         }
@@ -32,17 +25,11 @@ pub fn next_where<F: Fn(usize) -> bool>(
 }
 
 /// The first record whose head passes the test.
-pub fn first_where<F: Fn(usize) -> bool>(
-    base: usize,
-    size: usize,
-    n: usize,
-    test: F,
-) -> Option<usize>
-    requires fits { base + size * n < 2 ^ 32 }
-    requires takes { (i : ℕ) → i < n → F.pre test (base + size * i) }
-    ensures { FirstBy (F.post test) size base n result }
+pub fn first_where<F: Fn(usize) -> bool>(span: Span, test: F) -> Option<usize>
+    requires takes { (i : ℕ) → i < span.count → F.pre test (span.base + span.size * i) }
+    ensures { FirstBy (F.post test) span.size span.base span.count result }
 {
-    let next = next_where(base, size, n, 0, test)?;
+    let next = next_where(span, 0, test)?;
     Some(next.head)
 }
 

@@ -65,7 +65,8 @@ pub fn second_of(records: &Records, d: DefinitionId) -> usize
     definition_second(records.words, definition_head(records, d))
 }
 
-/// The origin of a crate.
+/// The origin of a crate, 0 where there is none.
+// A number: the words may be any, and a public answer tells each number that a record may have, of which a `CrateOrigin` is five.
 pub fn origin_of(records: &Records, c: Crate) -> usize
     ensures { (A : List ℕ) → result ≡ (crate_data (snap_by records.now A) c.0).origin }
 {
@@ -106,22 +107,24 @@ pub fn item_of(records: &Records, ns: usize, d: DefinitionId) -> Item
     Item::Def(Namespace(ns), d)
 }
 
+/// Whether two items are the same: one module, or one definition in one namespace.
 // `same_item` is the definition that rules and searches are stated over; `==` of a derive would need a law to it at each call.
 pub fn same_item(a: Item, b: Item) -> bool
     ensures { result ≡ same_item a b }
 {
     match a {
         Item::Mod(m) => match b {
-            Item::Mod(n) => m.0 == n.0,
+            Item::Mod(n) => m == n,
             Item::Def(_, _) => false,
         },
         Item::Def(ns, d) => match b {
             Item::Mod(_) => false,
-            Item::Def(other, e) => (ns.0 == other.0) & (d.0 == e.0),
+            Item::Def(other, e) => (ns == other) & (d == e),
         },
     }
 }
 
+/// The number of an item's namespace; a module is in that of types.
 pub fn ns_of(item: Item) -> usize
     ensures { result ≡ ns_of item }
 {

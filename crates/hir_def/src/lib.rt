@@ -1,9 +1,12 @@
 //! What the lookups over an accepted snapshot answer.
 #![tactic(auto)]
 
+ghost use Rattle.std.specs.Prelude.{◌+◌, ◌*◌, ◌^◌, ◌<◌};
+
 pub mod finds;
 pub mod items;
 pub mod modules;
+pub mod spans;
 pub mod visibility;
 
 use snapshot::ids::{DefinitionId, ModuleId, Namespace};
@@ -28,4 +31,13 @@ pub struct Lookup {
 pub struct Place {
     pub number: usize,
     pub head: usize,
+}
+
+/// Records of one size from a place on.
+#[derive(Clone, Copy)]
+pub struct Span {
+    pub base: usize,
+    pub size: usize,
+    pub count: usize,
+    ghost fits: { base + size * count < 2 ^ 32 },
 }

@@ -15,6 +15,7 @@ use snapshot::records::Records;
 use snapshot::words::word;
 
 // Leaves the heads of the public entries of all modules in the work area, in record order, and answers how many there are.
+// By the number of the visibility, 0 for public: a `Visibility` would be made of two words of each entry to be asked for its variant.
 fn gather(records: &Records, area: &mut [u32]) -> usize
     requires { Ready records.now.words.now area.old records.now.layout }
     ensures { Gathered records.now.words.now area.old records.now.layout area.new result }
@@ -33,7 +34,7 @@ fn gather(records: &Records, area: &mut [u32]) -> usize
 }
 
 // Threads the entries by module, the last first.
-// The heads stand in the area before the threads that this writes, so their n is a number and no slice of its own.
+// The heads are read from the area that the threads are written to, and `Threads` speaks of that area whole: so n counts them, and no slice is lent.
 fn thread_entries(words: &[u32], area: &mut Area, n: usize)
     requires area_len { entries_room + n ≤ heads_room }
     requires by_index { ((b : ℕ) → b < module_limit → get_or area.old (heads_room + b) 0 ≡ 0)

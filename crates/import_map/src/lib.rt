@@ -11,9 +11,9 @@ ghost use Rattle.hir_def.specs.Entries.{NextOf};
 
 use hir_def::finds::next_where;
 use hir_def::items::{item_of, same_item};
+use hir_def::spans::imports;
 use hir_def::{Item, Place};
 use snapshot::ids::Crate;
-use snapshot::kind::Size;
 use snapshot::record::{import_bits, import_definition, import_ns, import_owner};
 use snapshot::records::Records;
 
@@ -22,8 +22,7 @@ use snapshot::records::Records;
 fn is_import(records: &Records, h: usize, c: Crate, item: Item) -> bool
     ensures { (A : List ℕ) → result ≡ is_import (snap_by records.now A) c.0 item (import_at records.now.words.now h) }
 {
-    let owner = import_owner(records.words, h);
-    if owner.0 != c.0 {
+    if import_owner(records.words, h) != c {
         return false;
     }
     let ns = import_ns(records.words, h);
@@ -37,13 +36,7 @@ pub fn import_info_for(records: &Records, k: usize, c: Crate, item: Item) -> Opt
         records.now.words.now (import_base records.now.layout) records.now.layout.imports k result }
 {
     let test = |h| is_import(records, h, c, item);
-    next_where(
-        records.layout.import_base(),
-        Size::IMPORT,
-        records.layout.imports,
-        k,
-        test,
-    )
+    next_where(imports(records), k, test)
 }
 
 /// Whether the import with its head at a place is hidden.

@@ -27,7 +27,7 @@ use Rattle.import_lists.specs.Writes.{written}
 use Rattle.import_lists.proofs.Walks.{threaded_kept}
 use Rattle.import_lists.proofs.Writing.{over_small}
 use Rattle.imports.specs.Listings.{Listing, refused_by, listed, list_in, list_by, list_of, number_in, words_in, Lists, ListsIn}
-use Rattle.imports.specs.declared.list.Listed.{Listed}
+use Rattle.counts.specs.Counts.{Counted}
 
 -- a refusal
 pub lists_not : {T : List ℕ} {e : Listing} (k : ℕ) → e ≡ refused_by k → Lists T e T (record { number = k; count = 0 })
@@ -119,7 +119,7 @@ module _ (W T : List ℕ) (c : ℕ) where
   unfolding list_by
   checked_not {k} {at} e = lists_not k (ap (list_by c (length T)) (sym e))
 
-  pub checked_done : {A : List ℕ} {l : Layout} {X : List ℕ} {r : Listed} → Reads W A l → Lists T (list_in c (length T) (snap_of W A l)) X r
+  pub checked_done : {A : List ℕ} {l : Layout} {X : List ℕ} {r : Counted} → Reads W A l → Lists T (list_in c (length T) (snap_of W A l)) X r
       → Lists T (list_by c (length T) (verdict W)) X r
   unfolding list_by
   checked_done {A} {l} {X} {r} q h = subst (λ v. Lists T (list_by c (length T) v) X r) (sym q.same) h
@@ -130,7 +130,7 @@ pub lists_small : (W A T : List ℕ) (c : ℕ) → length A < 16384 → ListsIn 
 unfolding list_of
 lists_small W A T c h = record { list = lists_not 20 (rw (list_of, lt-ltb _ _ h)); area = area_small A h }
 
-pub lists_large : (W A T X B : List ℕ) (c : ℕ) (r : Listed) → 16384 ≤ length A → B ≡ zeros 16384 → Lists T (list_by c (length T) (verdict W)) X r
+pub lists_large : (W A T X B : List ℕ) (c : ℕ) (r : Counted) → 16384 ≤ length A → B ≡ zeros 16384 → Lists T (list_by c (length T) (verdict W)) X r
     → ListsIn W A c T X (B ++ drop 16384 A) r
 unfolding list_of
 lists_large W A T X B c r h z q =

@@ -4,8 +4,9 @@ ghost use Rattle.snapshot.specs.Limits.{area_limit};
 ghost use Rattle.snapshot.specs.Laid.{snap_by};
 ghost use Rattle.check_rules.specs.Verdict.{verdict};
 ghost use Rattle.answer.specs.Answers.{zeros};
+ghost use Rattle.counts.specs.Counts.{told};
 ghost use Rattle.import_order.specs.Lists.{Ready};
-ghost use Rattle.imports.specs.Listings.{list_in, list_by, Lists, ListsIn, told};
+ghost use Rattle.imports.specs.Listings.{list_in, list_by, Lists, ListsIn};
 
 use accept::check::check;
 use accept::opened::Snapshot;
@@ -17,28 +18,6 @@ use snapshot::ids::{Area, Crate};
 use snapshot::records::Records;
 use snapshot::refusal::Refusal;
 
-/// The number by which a call is refused, 0 for none, and how many words were written.
-// The C interface takes a number and a count.
-#[derive(Clone, Copy)]
-pub struct Listed {
-    pub number: usize,
-    pub count: usize,
-}
-
-// The answer for a count, or for a refusal.
-// Into this call's own answer; the one of `join` has the same fields, but each call's specification names its own.
-fn told(r: Result<usize, Refusal>) -> Listed
-    ensures { result ≡ told r }
-{
-    match r {
-        Ok(count) => Listed { number: 0, count },
-        Err(why) => Listed {
-            number: why.number(),
-            count: 0,
-        },
-    }
-}
-
 // The list of a crate of an accepted snapshot: counted first, then written where there is room for it. Answers the count.
 fn list_accepted(
     records: &Records,
@@ -48,7 +27,7 @@ fn list_accepted(
 ) -> Result<usize, Refusal>
     requires { Ready records.now.words.now area.old records.now.layout }
     ensures { Lists target.old (list_in c.0 (length target.old) (snap_by records.now area.old))
-        target.new (told result) }
+        target.new (told 0 result) }
 {
     if records.layout.crates <= c.0 {
         return Err(Refusal::Unknown);
@@ -75,7 +54,7 @@ fn list_checked(
     target: &mut [u32],
 ) -> Result<usize, Refusal>
     ensures { Lists target.old (list_by c.0 (length target.old) (verdict words.now))
-        target.new (told result) }
+        target.new (told 0 result) }
 {
     let layout = check(words, area)?;
     list_accepted(&Records { words, layout }, area, c, target)
@@ -89,7 +68,7 @@ fn list_within(
     target: &mut [u32],
 ) -> Result<usize, Refusal>
     ensures lists { Lists target.old (list_by c.0 (length target.old) (verdict words.now))
-        target.new (told result) }
+        target.new (told 0 result) }
     ensures area_after { area.new ≡ zeros area_limit }
 {
     let r = list_checked(words, area, c, target);
@@ -98,14 +77,19 @@ fn list_within(
 }
 
 /// Writes the import records of a crate to the target, in the order in which the Rust adds them, and answers how many words these are;
-/// what stands past them stays. Or answers the number by which the call is refused, with the target unchanged: 20 a small work area,
+/// what stands past them stays. Or answers why the call is refused, with the target unchanged: 20 a small work area,
 /// 30 to 36 and 43 the snapshot, 23 an unknown crate, 45 a target that is too short. The work area is left as `find_path` leaves it.
-// The test of the work area begins `join` and `new_numbers` too: past it each cuts the area for a function with other slices and another answer.
-pub fn import_list(words: &[u32], area: &mut [u32], c: Crate, target: &mut [u32]) -> Listed
-    ensures { ListsIn words.now area.old c.0 target.old target.new area.new result }
+// The test of the work area begins `join` and `new_numbers` too: past it each cuts the area for a function with other slices.
+pub fn import_list(
+    words: &[u32],
+    area: &mut [u32],
+    c: Crate,
+    target: &mut [u32],
+) -> Result<usize, Refusal>
+    ensures { ListsIn words.now area.old c.0 target.old target.new area.new (told 0 result) }
 {
     let Some(front) = area.first_chunk_mut() else {
-        return told(Err(Refusal::Area));
+        return Err(Refusal::Area);
     };
-    told(list_within(words, front, c, target))
+    list_within(words, front, c, target)
 }

@@ -1,11 +1,12 @@
 //! The scope of a module, after item_scope.rs: its entries in record order.
-//! `declared` and `fresh` are bools of `counts` and `preferred`, set by bits of the options: two enums would be turned back in each clause.
+//! `declared` and `fresh` are bits of the options, and bools in the definitions `counts` and `preferred`: an enum for either would be made a bool in
+//! each clause.
 #![tactic(auto)]
 
-ghost use Rattle.std.specs.Prelude.{◌≡◌, List, Bool, true, false, ◌&&◌, ℕ, ◌+◌, ◌*◌, ◌^◌, ◌<◌};
+ghost use Rattle.std.specs.Prelude.{◌≡◌, List, Bool, true, false, ◌&&◌, ℕ, ◌+◌, ◌*◌, ◌<◌};
 ghost use Rattle.snapshot.specs.Sizes.{scope_size};
 ghost use Rattle.snapshot.specs.Records.{Scope, scope_at};
-ghost use Rattle.snapshot.specs.Layouts.{word_count, scope_base, records_of};
+ghost use Rattle.snapshot.specs.Layouts.{scope_base, records_of};
 ghost use Rattle.snapshot.specs.Laid.{snap_by};
 ghost use Rattle.hir_def.specs.ItemScope.{is_declared, is_deprecated, is_fresh, counts, is_for, is_named, is_module_entry, name_of, names_of, name_reads, names_reads};
 ghost use Rattle.hir_def.specs.ItemScope.{preferred, preferred_reads, get as entry_named};
@@ -15,10 +16,9 @@ ghost use Rattle.hir_def.specs.Entries.{entry_of, UpTo, NextOf};
 
 use hir_def::finds::{first_where, next_where};
 use hir_def::items::{item_of, known_kind_of, same_item};
-use hir_def::{Item, Lookup, Place};
+use hir_def::spans::scopes;
+use hir_def::{Item, Lookup, Place, Span};
 use snapshot::ids::{DefinitionKind, ModuleId, Name, Namespace};
-use snapshot::kind::Size;
-use snapshot::layout::Layout;
 use snapshot::record::{scope_declared, scope_definition, scope_name, scope_ns, scope_owner};
 use snapshot::records::Records;
 
@@ -41,8 +41,7 @@ pub fn is_deprecated(words: &[u32], h: usize) -> bool
 pub fn is_for(records: &Records, h: usize, m: ModuleId, item: Item) -> bool
     ensures { (A : List ℕ) → result ≡ is_for (snap_by records.now A) m.0 item (scope_at records.now.words.now h) }
 {
-    let owner = scope_owner(records.words, h);
-    if owner.0 != m.0 {
+    if scope_owner(records.words, h) != m {
         return false;
     }
     let ns = scope_ns(records.words, h);
@@ -79,13 +78,7 @@ pub fn names_of(records: &Records, m: ModuleId, item: Item, declared: bool) -> L
         × UpTo 8 (scope_base records.now.layout) records.now.layout.scopes result.entry result.read }
 {
     let test = |h| is_entry(records, h, m, item, declared);
-    match next_where(
-        records.layout.scope_base(),
-        Size::SCOPE,
-        records.layout.scopes,
-        0,
-        test,
-    ) {
+    match next_where(scopes(records), 0, test) {
         Some(found) => Lookup {
             entry: Some(found.head),
             read: found.number + 1,
@@ -106,33 +99,31 @@ pub fn name_of(records: &Records, m: ModuleId, item: Item) -> Lookup
     names_of(records, m, item, false)
 }
 
-/// The first entry that passes the second test, which passes no more than the first; where there is none, the first that passes the first test, with
-/// all records read.
-pub fn preferred<F: Fn(usize) -> bool, G: Fn(usize) -> bool>(l: Layout, its: F, fresh: G) -> Lookup
-    requires fits { word_count l < 2 ^ 32 }
-    requires its { (i : ℕ) → i < l.scopes → F.pre its (scope_base l + scope_size * i) }
-    requires fresh { (i : ℕ) → i < l.scopes → G.pre fresh (scope_base l + scope_size * i) }
+/// The first entry of a span that passes the second test, which passes no more than the first; where there is none, the first that passes the
+/// first test, with all records read.
+pub fn preferred<F: Fn(usize) -> bool, G: Fn(usize) -> bool>(span: Span, its: F, fresh: G) -> Lookup
+    requires its { (i : ℕ) → i < span.count → F.pre its (span.base + span.size * i) }
+    requires fresh { (i : ℕ) → i < span.count → G.pre fresh (span.base + span.size * i) }
     ensures { (W : List ℕ) (q r : Scope → Bool) → ((h : ℕ) (t : Bool) → F.post its h t → t ≡ q (scope_at W h))
         → ((h : ℕ) (t : Bool) → G.post fresh h t → t ≡ r (scope_at W h)) → ((y : Scope) → q y ≡ false → r y ≡ false)
-        → (entry_of scope_at W result.entry ≡ or_first (first_of r (records_of scope_at scope_size W (scope_base l) l.scopes))
-        (first_of q (records_of scope_at scope_size W (scope_base l) l.scopes)))
-        × (result.read ≡ reads_of r (records_of scope_at scope_size W (scope_base l) l.scopes)) }
+        → (entry_of scope_at W result.entry ≡ or_first (first_of r (records_of scope_at span.size W span.base span.count))
+        (first_of q (records_of scope_at span.size W span.base span.count)))
+        × (result.read ≡ reads_of r (records_of scope_at span.size W span.base span.count)) }
 {
-    let base = l.scope_base();
-    let Some(old) = next_where(base, Size::SCOPE, l.scopes, 0, its) else {
+    let Some(old) = next_where(span, 0, its) else {
         return Lookup {
             entry: None,
-            read: l.scopes,
+            read: span.count,
         };
     };
-    match next_where(base, Size::SCOPE, l.scopes, old.number, fresh) {
+    match next_where(span, old.number, fresh) {
         Some(it) => Lookup {
             entry: Some(it.head),
             read: it.number + 1,
         },
         None => Lookup {
             entry: Some(old.head),
-            read: l.scopes,
+            read: span.count,
         },
     }
 }
@@ -145,7 +136,7 @@ pub fn fresh_of(records: &Records, m: ModuleId, item: Item, declared: bool) -> L
 {
     let its = |h| is_entry(records, h, m, item, declared);
     let fresh = |h| is_fresh(records, h, m, item, declared);
-    preferred(records.layout, its, fresh)
+    preferred(scopes(records), its, fresh)
 }
 
 /// The entry of `names_of`; by options bit 32 that of `fresh_of`.
@@ -164,9 +155,7 @@ pub fn entry_in(records: &Records, m: ModuleId, item: Item, declared: bool, fres
 fn is_named(words: &[u32], h: usize, m: ModuleId, ns: usize, name: Name) -> bool
     ensures { result ≡ is_named m.0 ns name.0 (scope_at words.now h) }
 {
-    let owner = scope_owner(words, h);
-    let its = scope_name(words, h);
-    (owner.0 == m.0) & ((scope_ns(words, h) == ns) & (its.0 == name.0))
+    (scope_owner(words, h) == m) & ((scope_ns(words, h) == ns) & (scope_name(words, h) == name))
 }
 
 /// The module's entry with that namespace and name.
@@ -175,20 +164,14 @@ pub fn get(records: &Records, m: ModuleId, ns: usize, name: Name) -> Option<usiz
     ensures { (A : List ℕ) → entry_of scope_at records.now.words.now result ≡ entry_named (snap_by records.now A) m.0 ns name.0 }
 {
     let test = |h| is_named(records.words, h, m, ns, name);
-    first_where(
-        records.layout.scope_base(),
-        Size::SCOPE,
-        records.layout.scopes,
-        test,
-    )
+    first_where(scopes(records), test)
 }
 
 /// Whether the entry with its head at a place is the module's, for a module in types.
 pub fn is_module_entry(records: &Records, h: usize, m: ModuleId) -> bool
     ensures { (A : List ℕ) → result ≡ is_module_entry (snap_by records.now A) m.0 (scope_at records.now.words.now h) }
 {
-    let owner = scope_owner(records.words, h);
-    if owner.0 != m.0 {
+    if scope_owner(records.words, h) != m {
         return false;
     }
     let kind = known_kind_of(records, scope_definition(records.words, h));
@@ -201,11 +184,5 @@ pub fn modules_in_scope(records: &Records, k: usize, m: ModuleId) -> Option<Plac
         records.now.words.now (scope_base records.now.layout) records.now.layout.scopes k result }
 {
     let test = |h| is_module_entry(records, h, m);
-    next_where(
-        records.layout.scope_base(),
-        Size::SCOPE,
-        records.layout.scopes,
-        k,
-        test,
-    )
+    next_where(scopes(records), k, test)
 }

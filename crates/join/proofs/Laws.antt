@@ -33,7 +33,7 @@ use Rattle.join_records.specs.Moves.{words_to}
 use Rattle.join_records.specs.Writes.{written, Space, Wrote, Whole}
 use Rattle.join_records.proofs.Laws.{words_few}
 use Rattle.join.specs.Joins.{number_in, words_in, Joins, JoinsIn, fits_in}
-use Rattle.join.specs.declared.join.Joined.{Joined}
+use Rattle.counts.specs.Counts.{Counted}
 use Rattle.join.proofs.Low.{accepted_low}
 use Rattle.join.proofs.Words.{words_same}
 
@@ -242,7 +242,7 @@ module _ (W X T : List ℕ) where
   unfolding join_by
   second_not {k} e = joins_not k (ap (join_by (length T) (accept (part_of W))) (sym e))
 
-  pub second_done : {A : List ℕ} {m : Layout} {Y : List ℕ} {r : Joined} → Reads X A m → Joins T (join_in (length T) (part_of W) (part_of X)) Y r
+  pub second_done : {A : List ℕ} {m : Layout} {Y : List ℕ} {r : Counted} → Reads X A m → Joins T (join_in (length T) (part_of W) (part_of X)) Y r
       → Joins T (join_by (length T) (accept (part_of W)) (verdict X)) Y r
   unfolding join_by
   second_done {A} {m} {Y} {r} q h =
@@ -252,7 +252,7 @@ module _ (W X T : List ℕ) where
   unfolding join_by
   first_not {k} e = joins_not k (ap (λ v. join_by (length T) v (verdict X)) (sym e))
 
-  pub first_done : {A : List ℕ} {l : Layout} {Y : List ℕ} {r : Joined} → Reads W A l → Joins T (join_by (length T) (accept (part_of W)) (verdict X)) Y r
+  pub first_done : {A : List ℕ} {l : Layout} {Y : List ℕ} {r : Counted} → Reads W A l → Joins T (join_by (length T) (accept (part_of W)) (verdict X)) Y r
       → Joins T (join_by (length T) (verdict W) (verdict X)) Y r
   first_done {A} {l} {Y} {r} q h =
       subst (λ v. Joins T (join_by (length T) v (verdict X)) Y r) (sym (q.same ∙ ap accept (sym (read_is W A l q)))) h
@@ -263,7 +263,7 @@ pub joins_small : (W X A T : List ℕ) → length A < 16384 → JoinsIn W X A T 
 unfolding join_of
 joins_small W X A T h = record { join = joins_not 20 (rw (join_of, lt-ltb _ _ h)); area = area_small A h }
 
-pub joins_large : (W X A T Y B : List ℕ) (r : Joined) → 16384 ≤ length A → B ≡ zeros 16384 → Joins T (join_by (length T) (verdict W) (verdict X)) Y r
+pub joins_large : (W X A T Y B : List ℕ) (r : Counted) → 16384 ≤ length A → B ≡ zeros 16384 → Joins T (join_by (length T) (verdict W) (verdict X)) Y r
     → JoinsIn W X A T Y (B ++ drop 16384 A) r
 unfolding join_of
 joins_large W X A T Y B r h z q =

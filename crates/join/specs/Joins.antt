@@ -1,11 +1,9 @@
 -- What a join leaves: a refusal and the target as it was, or the joined words at its front.
-use Rattle.std.specs.Prelude.{ℕ, ◌≡◌, List, [], ◌++◌, Bool, ◌&&◌, leb, length, drop, Result, Ok, Err}
+use Rattle.std.specs.Prelude.{ℕ, ◌≡◌, List, [], ◌++◌, Bool, ◌&&◌, leb, length, drop}
 use Rattle.snapshot.specs.Limits.{word_limit, crate_limit, module_limit, name_limit, definition_limit}
-use Rattle.snapshot.specs.Refusals.{refusal_number}
-use Rattle.snapshot.specs.declared.refusal.Refusal.{Refusal}
 use Rattle.answer.specs.Answers.{area_after}
+use Rattle.counts.specs.Counts.{Counted}
 use Rattle.join_words.specs.Joined.{Joining, refused_by, joined_as, join_of}
-use Rattle.join.specs.declared.join.Joined.{Joined}
 
 -- the number of the refusal, 0 for none
 unfoldable pub number_in : Joining → ℕ
@@ -17,19 +15,14 @@ unfoldable pub words_in : Joining → List ℕ
 words_in (refused_by n) = []
 words_in (joined_as ws) = ws
 
--- the answer for a count, or for a refusal
-abbrev pub told : Result ℕ Refusal → Joined
-told (Ok n) = record { number = 0; count = n }
-told (Err k) = record { number = refusal_number k; count = 0 }
-
 -- T₀ is the target before the call, T after it: the joined words, and past them what was there
-pub record Joins (T₀ : List ℕ) (e : Joining) (T : List ℕ) (r : Joined) : Type 0 where
+pub record Joins (T₀ : List ℕ) (e : Joining) (T : List ℕ) (r : Counted) : Type 0 where
   pub number : r.number ≡ number_in e
   pub count : r.count ≡ length (words_in e)
   pub target : T ≡ words_in e ++ drop (length (words_in e)) T₀
 
 -- A₀ is the work area before the call, A after it
-pub record JoinsIn (W X A₀ T₀ T A : List ℕ) (r : Joined) : Type 0 where
+pub record JoinsIn (W X A₀ T₀ T A : List ℕ) (r : Counted) : Type 0 where
   pub join : Joins T₀ (join_of (length A₀) W X (length T₀)) T r
   pub area : A ≡ area_after A₀
 

@@ -4,9 +4,10 @@ ghost use Rattle.std.specs.Prelude.{◌≡◌, length};
 ghost use Rattle.snapshot.specs.Limits.{area_limit};
 ghost use Rattle.check_rules.specs.Verdict.{accept, verdict};
 ghost use Rattle.answer.specs.Answers.{zeros};
+ghost use Rattle.counts.specs.Counts.{told};
 ghost use Rattle.join_words.specs.Joined.{join_in, join_by};
 ghost use Rattle.join_numbers.specs.Parts.{part_of, Part, ready_in, first_in, second_in};
-ghost use Rattle.join.specs.Joins.{Joins, JoinsIn, fits_in, told};
+ghost use Rattle.join.specs.Joins.{Joins, JoinsIn, fits_in};
 
 use accept::check::check;
 use answer::area::clear;
@@ -16,28 +17,6 @@ use join_records::write::put_kinds;
 use snapshot::ids::{Area, Crate, DefinitionId, ModuleId, Name, WordCount};
 use snapshot::records::Records;
 use snapshot::refusal::Refusal;
-
-/// The number by which a call is refused, 0 for none, and how many words were written.
-// The C interface takes a number and a count.
-#[derive(Clone, Copy)]
-pub struct Joined {
-    pub number: usize,
-    pub count: usize,
-}
-
-// The answer for a count, or for a refusal.
-// `imports::list::told` makes a `Listed`: two answers of two calls of the C interface, and a shared type would stand in neither crate.
-fn told(r: Result<usize, Refusal>) -> Joined
-    ensures { result ≡ told r }
-{
-    match r {
-        Ok(count) => Joined { number: 0, count },
-        Err(why) => Joined {
-            number: why.number(),
-            count: 0,
-        },
-    }
-}
 
 // Whether so many words and records pass no limit, and the words fit.
 fn fits(
@@ -72,7 +51,7 @@ fn fits(
 fn join_accepted(parts: &Parts, area: &mut [u32], target: &mut [u32]) -> Result<usize, Refusal>
     requires { ready_in parts.now area.old }
     ensures { Joins target.old (join_in (length target.old) (first_in parts.now)
-        (second_in parts.now)) target.new (told result) }
+        (second_in parts.now)) target.new (told 0 result) }
 {
     let n = number(parts, area);
     let count = put_kinds(parts, area, target, false);
@@ -102,7 +81,7 @@ fn join_second(
 ) -> Result<usize, Refusal>
     requires { Part first.now.words.now first.now.layout }
     ensures { Joins target.old (join_by (length target.old) (accept (part_of first.now.words.now))
-        (verdict second.now)) target.new (told result) }
+        (verdict second.now)) target.new (told 0 result) }
 {
     let layout = check(second, area)?;
     let second = Records {
@@ -124,7 +103,7 @@ fn join_checked(
     target: &mut [u32],
 ) -> Result<usize, Refusal>
     ensures { Joins target.old (join_by (length target.old) (verdict first.now)
-        (verdict second.now)) target.new (told result) }
+        (verdict second.now)) target.new (told 0 result) }
 {
     let layout = check(first, area)?;
     let first = Records {
@@ -142,7 +121,7 @@ fn join_within(
     target: &mut [u32],
 ) -> Result<usize, Refusal>
     ensures joins { Joins target.old (join_by (length target.old) (verdict first.now)
-        (verdict second.now)) target.new (told result) }
+        (verdict second.now)) target.new (told 0 result) }
     ensures area_after { area.new ≡ zeros area_limit }
 {
     let r = join_checked(first, second, area, target);
@@ -150,15 +129,20 @@ fn join_within(
     r
 }
 
-/// Writes the words of the two snapshots joined to the target, and answers how many these are; what stands past them stays. Or answers the number
-/// by which the call is refused, with the target unchanged: 20 a small work area, 30 to 36 and 43 the first snapshot, then the second, 51 a result
+/// Writes the words of the two snapshots joined to the target, and answers how many these are; what stands past them stays. Or answers why
+/// the call is refused, with the target unchanged: 20 a small work area, 30 to 36 and 43 the first snapshot, then the second, 51 a result
 /// that passes a limit or does not fit the target. The work area is left as `find_path` leaves it.
-pub fn join(first: &[u32], second: &[u32], area: &mut [u32], target: &mut [u32]) -> Joined
+pub fn join(
+    first: &[u32],
+    second: &[u32],
+    area: &mut [u32],
+    target: &mut [u32],
+) -> Result<usize, Refusal>
     ensures { JoinsIn first.now second.now area.old target.old target.new
-        area.new result }
+        area.new (told 0 result) }
 {
     let Some(front) = area.first_chunk_mut() else {
-        return told(Err(Refusal::Area));
+        return Err(Refusal::Area);
     };
-    told(join_within(first, second, front, target))
+    join_within(first, second, front, target)
 }

@@ -58,6 +58,7 @@ pub record Part (W : List ℕ) (l : Layout) : Type 0 where
   pub definitions : (part_of W).definitions ≡ records_of definition_at definition_size W (definition_base l) l.definitions
 
 -- both inputs, and a work area with the tables of the second
+-- (a clause and no type: the tables of the new numbers are written to the area, and a value with this fact would have to be made anew after each)
 pub record Ready (W X A : List ℕ) (l₁ l₂ : Layout) : Type 0 where
   pub first : Part W l₁
   pub second : Reads X A l₂

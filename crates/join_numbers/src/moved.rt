@@ -8,6 +8,7 @@ use crate::tables::Moved;
 use snapshot::ids::{DefinitionId, Name};
 use snapshot::words::word;
 
+/// The number that a name of the second part has in the two joined.
 pub fn moved_name(area: &[u32], n: Name) -> Name
     requires { n.0 < 2 ^ 32 }
     ensures { (s t : Snapshot) → NumbersIn s t area.now → n.0 < length t.names → result.0 ≡ (second_numbers s t).names n.0 }
@@ -15,6 +16,7 @@ pub fn moved_name(area: &[u32], n: Name) -> Name
     Name(word(area, Moved::NAMES + n.0))
 }
 
+/// The number that a definition of the second part has in the two joined.
 pub fn moved_definition(area: &[u32], d: DefinitionId) -> DefinitionId
     requires { d.0 < 2 ^ 32 }
     ensures { (s t : Snapshot) → NumbersIn s t area.now → d.0 < length t.definitions

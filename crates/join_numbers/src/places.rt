@@ -10,6 +10,7 @@ ghost use Rattle.join_numbers.specs.Parts.{names_from};
 ghost use Rattle.join_numbers.specs.Numbered.{is_named};
 
 use hir_def::finds::next_where;
+use hir_def::spans::definitions;
 use record_rules::names::known;
 use snapshot::ids::{DefinitionKind, Name};
 use snapshot::kind::{Size, text_words};
@@ -19,6 +20,7 @@ use snapshot::words::payload;
 
 /// The number that a name of the second part has among the first's, their count for none.
 // `first` is a snapshot's words, of which the names are the front: their number is no length.
+// The count for none, as the definition `place_of` has it: `put_number` compares it with the count, so an `Option` would be made that number again.
 pub fn place_of_name(first: &[u32], count: usize, second: &[u32], area: &[u32], n: Name) -> usize
     requires { (count ≤ name_limit) × (n.0 < length area.now) }
     ensures { result ≡ place_of (same_name (name_at second.now (name_head area.now n.0))) 0
@@ -44,18 +46,13 @@ fn is_named(first: &[u32], at: usize, name: usize) -> bool
 }
 
 /// The number of the first part's builtin with a name, the count of its definitions for none.
+// The count for none, as in `place_of_name`.
 pub fn place_of_builtin(first: &Records, name: usize) -> usize
     ensures { result ≡ place_of (is_named name) 0 (records_of definition_at definition_size first.now.words.now
         (definition_base first.now.layout) first.now.layout.definitions) }
 {
     let test = |at| is_named(first.words, at, name);
-    match next_where(
-        first.layout.definition_base(),
-        Size::DEFINITION,
-        first.layout.definitions,
-        0,
-        test,
-    ) {
+    match next_where(definitions(first), 0, test) {
         Some(found) => found.number,
         None => first.layout.definitions,
     }

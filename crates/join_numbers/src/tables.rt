@@ -63,6 +63,7 @@ pub fn number_names(parts: &Parts, area: &mut [u32]) -> usize
 }
 
 // The number that a definition of the second part has among the first's, their count for none: only builtins are in both.
+// The count for none, as in `place_of_name`: `number_by`, the definition of what is written, compares the two.
 fn place_of_definition(parts: &Parts, area: &[u32], d: DefinitionId) -> usize
     requires ready { ready_in parts.now area.now × (d.0 < parts.now.second.layout.definitions) }
     requires holds { Holds area.now name_table (name_number (first_in parts.now) (second_in parts.now)) parts.now.second.layout.names }

@@ -140,6 +140,7 @@ impl Moving<'_, '_> {
     }
 
     // The number of a visibility: none, a crate's, or a module's.
+    // By the number of its kind, as the definition `visible_to`: a `Visibility` would be made of both, and its number taken out again in each arm.
     fn seen_to(&self, v: usize, n: usize) -> usize
         requires { visible_to (numbers_in self.now) v n < 2 ^ 32 }
         ensures { result ≡ visible_to (numbers_in self.now) v n }

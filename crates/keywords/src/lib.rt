@@ -11,6 +11,7 @@ ghost use Rattle.keywords.specs.Editions.{keywords_in};
 use record_rules::names::known;
 
 // The keywords as name records, in the order of the definition, and the places of their heads.
+// Words and no strings: `known` compares them with a name's words as a snapshot has them, and a string would be packed into such words at each test.
 const KEYWORDS: [u32; 147] = [
     0x10000002, 0x00007361, 0x10000005, 0x00657262, 0x00006b61, 0x10000005, 0x006e6f63, 0x00007473,
     0x10000008, 0x006e6f63, 0x006e6974, 0x00006575, 0x10000005, 0x00617263, 0x00006574, 0x10000004,

@@ -284,12 +284,19 @@ tail_path f k ns (suc i) h =
     ∙ path_next f k ns i (get_or ns i 0) _ (omega arith) refl refl
     ∙ ap (path_to f k ns) (add-one i)
 
-pub path_done : (f : ℕ → List ℕ) (k : ℕ) (ns : List ℕ) (i : ℕ) → i ≤ length ns → length ns ≤ i
+pub path_done : (f : ℕ → List ℕ) (k : ℕ) (ns : List ℕ) (i n : ℕ) → i ≤ n → n ≤ i → n ≤ length ns
+    → joined (bytes_of "::") (prefix_parts k) ++ tail_to f (eqb k 1 || (eqb k 2 || (eqb k 3 || eqb k 4))) ns i
+    ≡ joined (bytes_of "::") (prefix_parts k ++ map f (take n ns))
+path_done f k ns i n h g m =
+    let e : i ≡ n = omega arith in
+    tail_path f k ns i (omega arith) ∙ ap (path_to f k ns) e ∙ path_whole f k ns n
+
+pub path_done_all : (f : ℕ → List ℕ) (k : ℕ) (ns : List ℕ) (i : ℕ) → i ≤ length ns → length ns ≤ i
     → joined (bytes_of "::") (prefix_parts k) ++ tail_to f (eqb k 1 || (eqb k 2 || (eqb k 3 || eqb k 4))) ns i
     ≡ joined (bytes_of "::") (prefix_parts k ++ map f ns)
-path_done f k ns i h g =
-    tail_path f k ns i h ∙ path_whole f k ns i
-    ∙ ap (λ t. joined (bytes_of "::") (prefix_parts k ++ map f t)) (take_all i ns g)
+path_done_all f k ns i h g =
+    path_done f k ns i (length ns) h g (omega arith)
+    ∙ ap (λ t. joined (bytes_of "::") (prefix_parts k ++ map f t)) (take_all (length ns) ns (omega arith))
 
 pub no_prefix : (k : ℕ) → (k ≡ 1 → ⊥) → (k ≡ 2 → ⊥) → (k ≡ 3 → ⊥) → [] ≡ joined (bytes_of "::") (prefix_parts k)
 unfolding prefix_parts joined

@@ -9,6 +9,7 @@ use Rattle.local_levels.specs.Levels.{run_at, levels_of, Chain, room}
 use Rattle.local_levels.specs.Push.{push}
 
 -- A run of n modules at the top, all of them different and below 512, with room for all 512; tables and levels lie below it.
+-- (a clause and no type: each push writes to the area, and a value with this fact would have to be made anew after it)
 pub record Ready (A : List ℕ) (s : Stack) (n : ℕ) : Type 0 where
   pub tables : table_words ≤ s.top
   pub space : s.top + module_limit ≤ length A

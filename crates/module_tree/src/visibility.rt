@@ -47,12 +47,10 @@ fn in_module(db: &Snapshot, viewer: ModuleId, target: ModuleId) -> bool
     requires { (viewer.0 < db.now.records.layout.modules) × (target.0 < db.now.records.layout.modules) }
     ensures { result ≡ in_module (snap_in db.now) viewer.0 target.0 }
 {
-    if viewer.0 == target.0 {
+    if viewer == target {
         return true;
     }
-    let here = krate(db, viewer);
-    let there = krate(db, target);
-    if here.0 != there.0 {
+    if krate(db, viewer) != krate(db, target) {
         return false;
     }
     let m = map(db, viewer);
@@ -69,10 +67,7 @@ pub fn is_visible_from(db: &Snapshot, visibility: Visibility, viewer: ModuleId) 
 {
     match visibility {
         Visibility::Public => true,
-        Visibility::InCrate(c) => {
-            let here = krate(db, viewer);
-            here.0 == c.0
-        }
+        Visibility::InCrate(c) => krate(db, viewer) == c,
         Visibility::InModule(m) | Visibility::Implied(m) => in_module(db, viewer, m),
     }
 }

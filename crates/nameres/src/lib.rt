@@ -38,7 +38,8 @@ pub fn scope_entry(
 }
 
 /// The first entry with a namespace and a name in a module, or around its blocks.
-// `nearest` with this lookup and this step; `scope_entry`, `read_back::entry_from` and those of seen entries give it others, and no more is left of them.
+// `scope_entry`, `read_back::entry_from` and those of seen entries call `nearest` too, each with a lookup and a step of its own: the call is all that
+// they share.
 pub fn entry_named(db: &Snapshot, from: ModuleId, ns: usize, name: Name) -> Option<usize>
     requires { from.0 < db.now.records.layout.modules }
     ensures { entry_of scope_at db.now.records.words.now result ≡ entry_named (snap_in db.now)

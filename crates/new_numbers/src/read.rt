@@ -6,6 +6,7 @@ use join_numbers::moved::{moved_definition, moved_name};
 use snapshot::ids::{DefinitionId, Name};
 
 /// The new number of a name of the second snapshot.
+// C takes and gets a number; 0 past 32 bits, where no snapshot has a name and the clause says nothing. So in the four below.
 // `name` is a number of the second snapshot and no length.
 pub fn new_name(area: &[u32], name: usize) -> usize
     ensures { NewName area.now name result }

@@ -39,7 +39,7 @@ const KIND_TEXT: [usize; 5] = [0, 4, 5, 5, 2];
 const KIND_NAMES: [usize; 5] = [0, 0, 1, 1, 0];
 
 /// The text length of a path kind.
-// A table of five with 0 past its end; of the other such table, `snapshot::kind::fixed`, the length is another, and so the test.
+// A table with 0 past its end, as `snapshot::kind::fixed`: shared, the two would be told their tables and lengths, which is what each says.
 pub fn path_kind_len(kind: usize) -> usize
     ensures { (result ≡ path_kind_len kind) × (result ≤ 5) }
 {

@@ -14,7 +14,7 @@ use hir_def::Item;
 use hir_def::items::{is_lang, supports_no_std};
 use hir_def::modules::{crate_root, in_block, krate, no_std};
 use hir_def::visibility::is_visible_from;
-use snapshot::ids::{ModuleId, Prefix};
+use snapshot::ids::{ModuleId, Options, Prefix};
 use snapshot::record::scope_seen;
 
 // The bit of that value.
@@ -59,12 +59,12 @@ pub fn context(db: &Snapshot, q: Query, home: ModuleId, own: usize) -> FindPathC
     let here = krate(db, from);
     let map = no_std(db, from);
     let its = supports_no_std(&db.records, here);
-    let nostd = bit(options, 1) | (map | its);
-    let prelude = bit(options, 2);
-    let absolute = bit(options, 4);
-    let unstable = bit(options, 8);
-    let declared = bit(options, 16);
-    let fresh = bit(options, 32);
+    let nostd = bit(options, Options::PREFER_NO_STD) | (map | its);
+    let prelude = bit(options, Options::PREFER_PRELUDE);
+    let absolute = bit(options, Options::PREFER_ABSOLUTE);
+    let unstable = bit(options, Options::ALLOW_UNSTABLE);
+    let declared = bit(options, Options::IGNORE_LOCAL_IMPORTS);
+    let fresh = bit(options, Options::FRESH);
     let std = is_lang(&db.records, krate(db, home));
     let root = crate_root(db, from);
     FindPathCtx {

@@ -19,8 +19,8 @@ fn main(rt: HostRuntime) -> io::Result<()> {
         say_unread(&rt);
         return Ok(());
     };
-    let write = |line: &[u8]| write_output(&rt, line);
+    let mut write = |line: &[u8]| write_output(&rt, line);
     // That a line cannot be written is said already.
-    let _ = each_line(&bytes[..n], &mut words, &mut area, &mut out, write);
+    let _ = each_line(&bytes[..n], &mut words, &mut area, &mut out, &mut write);
     Ok(())
 }

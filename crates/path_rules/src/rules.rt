@@ -26,6 +26,7 @@ use snapshot::ids::{ModuleId, PathKind, Prefix};
 use snapshot::record::{extern_name, prelude_target, scope_name};
 
 // The path kind of a prefix.
+// Any number is a prefix here, as in `FindPathCtx`, and the definition gives that of a plain path to those past the third.
 fn prefix_path_kind(prefix: usize) -> usize
     ensures { result ≡ prefix_path_kind prefix }
 {
@@ -39,6 +40,7 @@ fn prefix_path_kind(prefix: usize) -> usize
 }
 
 // The single name of an entry, by a rule, or nothing.
+// `kind` is a number, as `Choice::new` takes it: a `PathKind` would be made that number here.
 fn single(db: &Snapshot, kind: usize, rule: StepRule, e: Option<usize>) -> Choice
     requires { EntryFits db.now.records.words.now db.now.records.layout e }
     ensures { (x : FindPathCtx) → result ≡ single_of (snap_in db.now) x kind (rule_number rule)
@@ -154,6 +156,7 @@ pub fn root_rule(db: &Snapshot, x: FindPathCtx, maybe_extern: bool, m: ModuleId)
 }
 
 // The module as the parent of the viewer's.
+// Answers the number of the kind: `keyword` takes it, and the definition answers one. So in the next.
 fn parent_kind(db: &Snapshot, x: FindPathCtx, m: ModuleId) -> Option<usize>
     requires { (x.from.0 < db.now.records.layout.modules) × (m.0 < db.now.records.layout.modules) }
     ensures { result ≡ parent_kind (snap_in db.now) x m.0

@@ -48,18 +48,17 @@ none_printed B W k e q f h =
 
 module _ {F E : Type 0} (g : Mut F (Bor (List ℕ) × Unit {0}) (Result (Unit {0}) E)) where
   pub took_one : (f : F) (x : Bor (List ℕ)) (r : Result (Unit {0}) E) (last : F) (texts : List (List ℕ)) → Called g f (x, tt) r last → texts ≡ x.now ∷ []
-      → OnOk r ((l : F) × FoldsTo (λ p t q. CalledAt g p t (Ok tt) q) f texts l)
+      → OnOk r (FoldsTo (λ p t q. CalledAt g p t (Ok tt) q) f texts last)
   took_one f x r last texts c e =
-      on_ok r (λ o. (
-        last,
-        subst (λ ts. FoldsTo (λ p t q. CalledAt g p t (Ok tt) q) f ts last) (sym e)
-            (last, record { shown = x; shows = refl; called = subst (λ s. Called g f (x, tt) s last) o c }, refl),
-      ))
+      on_ok r (λ o.
+      subst (λ ts. FoldsTo (λ p t q. CalledAt g p t (Ok tt) q) f ts last) (sym e)
+      (last, record { shown = x; shows = refl; called = subst (λ s. Called g f (x, tt) s last) o c }, refl)
+      )
 
-  pub took_turns : (B W : List ℕ) (k : ℕ) (f : F) (r : Result (Unit {0}) E) → W ≡ words_in B (length B / 4) → k ≡ questions_at W → input_fault B ≡ 0
-      → OnOk r ((c : Checked) × (texts : List (List ℕ)) × (last : F) × Turns W (take k W) c k texts
+  pub took_turns : (B W : List ℕ) (k : ℕ) (f last : F) (r : Result (Unit {0}) E) → W ≡ words_in B (length B / 4) → k ≡ questions_at W → input_fault B ≡ 0
+      → OnOk r ((c : Checked) × (texts : List (List ℕ)) × Turns W (take k W) c k texts
       × FoldsTo (λ p t q. CalledAt g p t (Ok tt) q) f texts last)
-      → OnOk r ((last : F) × FoldsTo (λ p t q. CalledAt g p t (Ok tt) q) f (map ended (printed B)) last)
-  took_turns B W k f (Ok u) e q h (c, texts, last, t, s) =
-      (last, subst (λ ts. FoldsTo (λ p t q. CalledAt g p t (Ok tt) q) f ts last) (turns_texts B W k c texts e q h t) s)
-  took_turns B W k f (Err x) e q h p = tt
+      → OnOk r (FoldsTo (λ p t q. CalledAt g p t (Ok tt) q) f (map ended (printed B)) last)
+  took_turns B W k f last (Ok u) e q h (c, texts, t, s) =
+      subst (λ ts. FoldsTo (λ p t q. CalledAt g p t (Ok tt) q) f ts last) (turns_texts B W k c texts e q h t) s
+  took_turns B W k f last (Err x) e q h p = tt

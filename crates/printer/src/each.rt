@@ -20,12 +20,12 @@ fn each_answer<E: Drop, F: FnMut(&[u8]) -> Result<(), E>>(
     k: usize,
     area: &mut Area,
     out: &mut [u8],
-    mut each: F,
+    each: &mut F,
 ) -> Result<(), E>
     requires room { (k ≤ length words.now) × (length words.now ≤ word_limit) × (routed_limit ≤ length out.old) }
-    requires call { F.IsAlwaysCallable each }
-    ensures { OnOk result ((c : _) × (texts : List (List ℕ)) × (last : F) × Turns words.now (take k words.now) c k texts
-        × FoldsTo (λ p t q. CalledAt F.FnMut p t (Ok tt) q) each texts last) }
+    requires call { F.IsAlwaysCallable each.old }
+    ensures { OnOk result ((c : _) × (texts : List (List ℕ)) × Turns words.now (take k words.now) c k texts
+        × FoldsTo (λ p t q. CalledAt F.FnMut p t (Ok tt) q) each.old texts each.new) }
 {
     let snapshot = &words[..k];
     let c = check(snapshot, area);
@@ -44,11 +44,11 @@ pub fn each_line<E: Drop, F: FnMut(&[u8]) -> Result<(), E>>(
     words: &mut [u32],
     area: &mut Area,
     out: &mut [u8],
-    mut each: F,
+    each: &mut F,
 ) -> Result<(), E>
     requires room { (word_limit ≤ length words.old) × (routed_limit ≤ length out.old) }
-    requires call { F.IsAlwaysCallable each }
-    ensures { OnOk result ((last : F) × FoldsTo (λ p t q. CalledAt F.FnMut p t (Ok tt) q) each (map ended (printed bytes.now)) last) }
+    requires call { F.IsAlwaysCallable each.old }
+    ensures { OnOk result (FoldsTo (λ p t q. CalledAt F.FnMut p t (Ok tt) q) each.old (map ended (printed bytes.now)) each.new) }
 {
     if let Err(why) = input_fault(bytes) {
         let n = put_refusal(out, why.number());

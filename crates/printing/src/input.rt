@@ -27,6 +27,7 @@ fn byte(bytes: &[u8], i: usize) -> u32
 }
 
 /// The word whose four bytes begin at a place, the lowest first.
+// Byte by byte, since those past the end read as 0: `from_le_bytes` takes four bytes, which there may not be.
 pub fn word_in(bytes: &[u8], at: usize) -> u32
     requires { at < 2 ^ 32 }
     ensures { result ≡ word_in bytes.now at }

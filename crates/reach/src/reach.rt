@@ -43,13 +43,9 @@ fn counted(
 }
 
 /// The reach of a module on checked words, which stay so.
-// The arms of `report_on` with this crate's `refused`: a reach and a report share no field but the number.
 pub fn reach_on(words: &[u32], area: &mut Area, c: Result<Layout, Refused>, v: Viewer) -> Reach
     requires { Judged words.now area.old c }
     ensures { Reached words.now v c area.new result }
 {
-    match counted(words, area, c, v) {
-        Ok(reach) => reach,
-        Err(why) => refused(why.number()),
-    }
+    counted(words, area, c, v).unwrap_or_else(|why| refused(why.number()))
 }

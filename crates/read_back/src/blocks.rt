@@ -13,7 +13,8 @@ use item_scope::get;
 use snapshot::ids::{ModuleId, Name};
 
 // The block's parent of a block map's root, none of any other module.
-// How names are read is defined in `readings`, privacy in `tree_rules`: alike here, and kept apart so that neither follows the other.
+// `seen_entries::privacy::block_step` is the same step, of `tree_rules`, which defines privacy; this is of `readings`, which defines how names are
+// read: two definitions, so that a change of one is no change of the other.
 fn outward(db: &Snapshot, m: ModuleId) -> Option<ModuleId>
     requires { m.0 < db.now.records.layout.modules }
     ensures { plus_one result ≡ outward_of (snap_in db.now) m.0 }

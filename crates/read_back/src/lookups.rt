@@ -6,8 +6,8 @@ ghost use Rattle.hir_def.specs.Entries.{entry_of};
 ghost use Rattle.readings.specs.Reads.{is_extern_named, extern_named, is_variant_named, variant_named};
 
 use hir_def::finds::first_where;
+use hir_def::spans::{externs, members};
 use snapshot::ids::{Crate, DefinitionId, MemberKind, Name};
-use snapshot::kind::Size;
 use snapshot::record::{extern_name, extern_owner, known_member_kind, member_name, member_parent};
 use snapshot::records::Records;
 
@@ -16,9 +16,7 @@ use snapshot::records::Records;
 fn is_extern_named(words: &[u32], h: usize, c: Crate, name: Name) -> bool
     ensures { result ≡ is_extern_named c.0 name.0 (extern_at words.now h) }
 {
-    let owner = extern_owner(words, h);
-    let its = extern_name(words, h);
-    (owner.0 == c.0) & (its.0 == name.0)
+    (extern_owner(words, h) == c) & (extern_name(words, h) == name)
 }
 
 /// The crate's extern of that name.
@@ -27,12 +25,7 @@ pub fn extern_named(records: &Records, c: Crate, name: Name) -> Option<usize>
     ensures { (A : List ℕ) → entry_of extern_at records.now.words.now result ≡ extern_named (snap_by records.now A) c.0 name.0 }
 {
     let test = |h| is_extern_named(records.words, h, c, name);
-    first_where(
-        records.layout.extern_base(),
-        Size::EXTERN,
-        records.layout.externs,
-        test,
-    )
+    first_where(externs(records), test)
 }
 
 // Whether the member with its head at a place is the definition's variant of that name.
@@ -40,10 +33,9 @@ pub fn extern_named(records: &Records, c: Crate, name: Name) -> Option<usize>
 fn is_variant_named(words: &[u32], h: usize, d: DefinitionId, name: Name) -> bool
     ensures { result ≡ is_variant_named d.0 name.0 (member_at words.now h) }
 {
-    let parent = member_parent(words, h);
-    let its = member_name(words, h);
-    (parent.0 == d.0)
-        & ((known_member_kind(words, h) == Some(MemberKind::Variant)) & (its.0 == name.0))
+    (member_parent(words, h) == d)
+        & ((known_member_kind(words, h) == Some(MemberKind::Variant))
+            & (member_name(words, h) == name))
 }
 
 /// The definition's first variant of that name.
@@ -51,10 +43,5 @@ pub fn variant_named(records: &Records, d: DefinitionId, name: Name) -> Option<u
     ensures { (A : List ℕ) → entry_of member_at records.now.words.now result ≡ variant_named (snap_by records.now A) d.0 name.0 }
 {
     let test = |h| is_variant_named(records.words, h, d, name);
-    first_where(
-        records.layout.member_base(),
-        Size::MEMBER,
-        records.layout.members,
-        test,
-    )
+    first_where(members(records), test)
 }

@@ -7,6 +7,7 @@ use snapshot::refusal::Refusal;
 
 /// Refused by the first test that fails.
 // Each flag is the result of a test of the record; so in `judge_crate`.
+// Five flags, and no `?` after each test: `number_of`, the definition of the order, takes all five, and so each step has one exit to prove, not five.
 pub fn judge(
     range: bool,
     defined: bool,

@@ -113,6 +113,7 @@ pub fn known(words: &[u32], at: usize, names: &[u32], heads: &[u32], n: usize) -
 }
 
 // The builtin types, as name records, and the places of their heads.
+// Words and no strings: `known` compares them with a name's words as a snapshot has them, and a string would be packed into such words at each test.
 const BUILTINS: [u32; 45] = [
     0x10000004, 0x00616863, 0x00000072, 0x10000004, 0x006f6f62, 0x0000006c, 0x10000003, 0x00727473,
     0x10000005, 0x00697369, 0x0000657a, 0x10000002, 0x00003869, 0x10000003, 0x00363169, 0x10000003,

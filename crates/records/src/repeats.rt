@@ -21,7 +21,7 @@ fn same_fields(words: &[u32], owner: bool, fields: usize, a: usize, b: usize) ->
 }
 
 // The payload of a word.
-// Of a word that was read by its index: `payload` takes a place, and reads 0 past the end, which would be a second test for each record.
+// `payload` takes a place in the words; this takes the word, which `same` and `repeated` have at hand.
 fn low(w: u32) -> u32
     ensures { result ≡ pay_of w }
 {

@@ -22,7 +22,7 @@ pub struct Space {
 struct Differs;
 
 impl Space {
-    pub fn new(alloc: Global) -> Result<Space, AllocError> {
+    pub(crate) fn new(alloc: Global) -> Result<Space, AllocError> {
         Ok(Space {
             words: vec![in alloc; 0; WordCount::SNAPSHOT]?,
             area: Box::new(alloc, [0; WordCount::AREA])?,
@@ -31,9 +31,9 @@ impl Space {
     }
 
     /// Whether the printer prints these lines for an input.
-    pub fn prints(&mut self, bytes: &[u8], lines: &[u8]) -> bool {
+    pub(crate) fn prints(&mut self, bytes: &[u8], lines: &[u8]) -> bool {
         let mut rest = lines;
-        let compare = |line: &[u8]| -> Result<(), Differs> {
+        let mut compare = |line: &[u8]| -> Result<(), Differs> {
             rest = rest.strip_prefix(line).ok_or(Differs)?;
             Ok(())
         };
@@ -42,7 +42,7 @@ impl Space {
             &mut self.words,
             &mut self.area,
             &mut self.out,
-            compare,
+            &mut compare,
         );
         compared.is_ok() && rest.is_empty()
     }

@@ -15,6 +15,7 @@ ghost use Rattle.rule_lookups.specs.Tests.{test_of};
 use accept::opened::Snapshot;
 use find_path::FindPathCtx;
 use hir_def::items::{item_of, ns_of, same_item};
+use hir_def::spans::scopes;
 use hir_def::{Item, Lookup};
 use item_scope::{is_declared, is_deprecated, is_for, name_of, preferred};
 use nameres::entry_named;
@@ -61,6 +62,7 @@ pub fn is_usable(db: &Snapshot, x: FindPathCtx, item: Item, h: usize) -> bool
 }
 
 /// The tests of the local rule: visible, and declared there or no implicitly private import.
+// By the number of the visibility, 3 for implied: the definition compares it, and a `Visibility` would be made of two words for one variant.
 pub fn is_importable(db: &Snapshot, x: FindPathCtx, h: usize) -> bool
     requires { (x.from.0 < db.now.records.layout.modules) × (2 ≤ (scope_at db.now.records.words.now h).visibility
         → (scope_at db.now.records.words.now h).number < db.now.records.layout.modules) }
@@ -100,7 +102,7 @@ fn is_fresh(db: &Snapshot, x: FindPathCtx, m: ModuleId, item: Item, rule: Rule, 
 
 // The first of the module's entries for the item that isn't deprecated and passes the tests of the rule; where there is none, the first
 // of its entries for the item, with all records read.
-// `preferred` with the test of the rule, where `item_scope::fresh_of` gives it that of a declared entry: no more is left of either.
+// `item_scope::fresh_of` calls `preferred` too, with the test of a declared entry where this has that of the rule: the call is all that they share.
 fn fresh_of(db: &Snapshot, x: FindPathCtx, m: ModuleId, item: Item, rule: Rule) -> Lookup
     requires { x.from.0 < db.now.records.layout.modules }
     ensures { (entry_of scope_at db.now.records.words.now result.entry ≡ preferred true (snap_in db.now)
@@ -111,7 +113,7 @@ fn fresh_of(db: &Snapshot, x: FindPathCtx, m: ModuleId, item: Item, rule: Rule) 
 {
     let its = |h| is_for(&db.records, h, m, item);
     let fresh = |h| is_fresh(db, x, m, item, rule, h);
-    preferred(db.records.layout, its, fresh)
+    preferred(scopes(&db.records), its, fresh)
 }
 
 /// The first of the module's entries for the item; by options bit 32 the first that isn't deprecated and passes the tests of the rule, if

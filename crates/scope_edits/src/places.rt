@@ -42,6 +42,8 @@ fn is_entry(words: &[u32], at: usize, key: EntryKey) -> bool
 }
 
 /// The place of the entry of a key, or the end.
+// The end for none: the definition `entry_place` answers it, and `edits` tests the place against the count of words. An `Option` would be made that
+// number in each clause.
 // `while`, as in `scopes_end`.
 // The walk of `scopes_end` to another record: the tests are of two definitions, and as a closure each would need a law to its own.
 pub fn entry_place(words: &[u32], key: EntryKey) -> usize

@@ -45,6 +45,7 @@ pub record Indexed (W : List ℕ) (l : Layout) (k : ℕ) (A : List ℕ) : Type 0
   pub links : (j : ℕ) → k ≤ j → j < l.scopes → First W l (owner_at W l j) (j + 1) (link_at A j)
 
 -- words for which the index has room
+-- (a clause and no type: it is less than that the words were accepted, and the public functions that make the index and read it may ask no more)
 pub record Sized (W : List ℕ) (l : Layout) : Type 0 where
   pub short : word_count l ≤ word_limit
   pub few : l.modules ≤ module_limit

@@ -26,7 +26,7 @@ use path_rules::choices::{StepRule, nothing, step_by};
 use path_rules::context::{context, module_in};
 use path_rules::rules::{prelude_rule, scope_rule};
 use search_parts::straight_of;
-use snapshot::ids::{Area, DefinitionId, DefinitionKind, Name, Namespace};
+use snapshot::ids::{Area, DefinitionId, DefinitionKind, Name, Namespace, PathKind};
 use snapshot::record::{definition_first, definition_second, known_definition_kind};
 use snapshot::records::Records;
 
@@ -78,7 +78,8 @@ fn builtin_choice(db: &Snapshot, d: DefinitionId) -> Choice
 {
     let h = definition_head(&db.records, d);
     let via = step_by(StepRule::Builtin, h);
-    Choice::new(db, 0, Name(definition_first(db.records.words, h)), via)
+    let name = Name(definition_first(db.records.words, h));
+    Choice::new(db, PathKind::Plain as usize, name, via)
 }
 
 /// The search for an item: a module goes straight to the module search, unless it is std's.

@@ -15,10 +15,10 @@ use accept::opened::Snapshot;
 use hir_def::Item;
 use hir_def::finds::first_where;
 use hir_def::items::{first_of, home_of, known_kind_of};
+use hir_def::spans::scopes;
 use item_scope::is_declared;
 use module_tree::modules::parent;
 use snapshot::ids::{DefinitionId, DefinitionKind, ModuleId, Namespace};
-use snapshot::kind::Size;
 use snapshot::record::{scope_definition, scope_ns, scope_owner, scope_seen};
 use snapshot::records::Records;
 
@@ -57,12 +57,10 @@ fn declared_in(db: &Snapshot, d: DefinitionId) -> Option<ModuleId>
 fn is_declaration(words: &[u32], h: usize, m: ModuleId, ns: usize, d: DefinitionId) -> bool
     ensures { result ≡ is_declaration m.0 ns d.0 (scope_at words.now h) }
 {
-    let owner = scope_owner(words, h);
-    if owner.0 != m.0 {
+    if scope_owner(words, h) != m {
         return false;
     }
-    let definition = scope_definition(words, h);
-    let same = (scope_ns(words, h) == ns) & (definition.0 == d.0);
+    let same = (scope_ns(words, h) == ns) & (scope_definition(words, h) == d);
     same & is_declared(words, h)
 }
 
@@ -72,12 +70,7 @@ fn declaration_in(records: &Records, m: ModuleId, ns: usize, d: DefinitionId) ->
         d.0 (suc m.0) }
 {
     let test = |h| is_declaration(records.words, h, m, ns, d);
-    first_where(
-        records.layout.scope_base(),
-        Size::SCOPE,
-        records.layout.scopes,
-        test,
-    )
+    first_where(scopes(records), test)
 }
 
 /// The declaration of the item of the entry with its head at a place.

@@ -13,9 +13,9 @@ use crate::entries::seen;
 use accept::opened::Snapshot;
 use hir_def::Item;
 use hir_def::finds::first_where;
+use hir_def::spans::scopes;
 use item_scope::is_for;
 use snapshot::ids::{ModuleId, Name};
-use snapshot::kind::Size;
 use snapshot::record::{scope_name, scope_ns, scope_owner};
 
 // Whether the entry with its head at a place has the module, the namespace and the name, and is seen.
@@ -31,9 +31,10 @@ fn is_named_seen(
     ensures { result ≡ (is_named m.0 ns name.0 (scope_at db.now.records.words.now h) && seen_from
         (snap_in db.now) from.0 (scope_at db.now.records.words.now h)) }
 {
-    let owner = scope_owner(db.records.words, h);
-    let its = scope_name(db.records.words, h);
-    if (owner.0 == m.0) & ((scope_ns(db.records.words, h) == ns) & (its.0 == name.0)) {
+    let words = db.records.words;
+    if (scope_owner(words, h) == m)
+        & ((scope_ns(words, h) == ns) & (scope_name(words, h) == name))
+    {
         return seen(db, from, h);
     }
     false
@@ -52,12 +53,7 @@ pub fn entry_named(
         from.0 ns m.0 name.0 }
 {
     let test = |h| is_named_seen(db, from, m, ns, name, h);
-    first_where(
-        db.records.layout.scope_base(),
-        Size::SCOPE,
-        db.records.layout.scopes,
-        test,
-    )
+    first_where(scopes(&db.records), test)
 }
 
 // Whether the entry with its head at a place is one of the module's for the item, and is seen.
@@ -79,10 +75,5 @@ pub fn entry_for(db: &Snapshot, from: ModuleId, m: ModuleId, item: Item) -> Opti
         (seen_from (snap_in db.now) from.0) }
 {
     let test = |h| is_for_seen(db, from, m, item, h);
-    first_where(
-        db.records.layout.scope_base(),
-        Size::SCOPE,
-        db.records.layout.scopes,
-        test,
-    )
+    first_where(scopes(&db.records), test)
 }

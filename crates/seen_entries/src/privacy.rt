@@ -56,10 +56,7 @@ pub fn holds(db: &Snapshot, visibility: Visibility, viewer: ModuleId) -> bool
 {
     match visibility {
         Visibility::Public => true,
-        Visibility::InCrate(c) => {
-            let here = krate(db, viewer);
-            here.0 == c.0
-        }
+        Visibility::InCrate(c) => krate(db, viewer) == c,
         Visibility::InModule(m) | Visibility::Implied(m) => privately(db, viewer, m),
     }
 }

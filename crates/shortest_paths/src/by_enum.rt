@@ -61,6 +61,7 @@ fn variant_told(
     Some(more(t, name.0))
 }
 
+/// The path to an item that is a variant, by its enum; none for another item.
 // `named` as in `variant_told`.
 pub(crate) fn enum_told(
     db: &Snapshot,

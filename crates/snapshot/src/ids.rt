@@ -9,7 +9,9 @@ ghost use Rattle.snapshot.specs.PathKinds.{path_kind_of};
 ghost use Rattle.snapshot.specs.Visibilities.{visibility_of};
 
 /// A module of the snapshot.
-#[derive(Clone, Copy)]
+// That it is below a count or below the limit is a clause where that matters: records are read before they are checked, with any number in them.
+// `==` borrows both sides, which a loop would carry: the test of `module_tree::meets` compares the numbers.
+#[derive(Clone, Copy, PartialEq, Eq)]
 pub struct ModuleId(pub usize);
 
 impl ModuleId {
@@ -29,7 +31,7 @@ pub fn opt_module(n: usize) -> Option<ModuleId>
 }
 
 /// A crate of the snapshot.
-#[derive(Clone, Copy)]
+#[derive(Clone, Copy, PartialEq, Eq)]
 pub struct Crate(pub usize);
 
 impl Crate {
@@ -60,7 +62,7 @@ impl CrateOrigin {
 }
 
 /// A definition of the snapshot.
-#[derive(Clone, Copy)]
+#[derive(Clone, Copy, PartialEq, Eq)]
 pub struct DefinitionId(pub usize);
 
 impl DefinitionId {
@@ -69,7 +71,7 @@ impl DefinitionId {
 }
 
 /// A name of the snapshot.
-#[derive(Clone, Copy)]
+#[derive(Clone, Copy, PartialEq, Eq)]
 pub struct Name(pub usize);
 
 impl Name {
@@ -80,7 +82,7 @@ impl Name {
 }
 
 /// Namespaces. The items of a question that is refused have any number for one, so it is no enum.
-#[derive(Clone, Copy)]
+#[derive(Clone, Copy, PartialEq, Eq)]
 pub struct Namespace(pub usize);
 
 impl Namespace {
@@ -179,7 +181,8 @@ pub enum PathKind {
     Absolute,
 }
 
-// A `match` on the numbers of the format, as in `DefinitionKind::of`, over other variants; a macro of both is not allowed, and a trait would keep both.
+// A `match` on the numbers of the format, as in `DefinitionKind::of`, over other variants. The project allows no macro for the two, and under a trait
+// each type would still have its own `match`.
 impl PathKind {
     /// The path kind with a number.
     pub fn of(number: usize) -> Option<PathKind>
@@ -223,6 +226,18 @@ pub struct Options;
 impl Options {
     /// All options together.
     pub const LIMIT: usize = 127;
+
+    pub const PREFER_NO_STD: usize = 1;
+
+    pub const PREFER_PRELUDE: usize = 2;
+
+    pub const PREFER_ABSOLUTE: usize = 4;
+
+    pub const ALLOW_UNSTABLE: usize = 8;
+    /// Only what a module declares is a name there.
+    pub const IGNORE_LOCAL_IMPORTS: usize = 16;
+    /// Deprecated names come last.
+    pub const FRESH: usize = 32;
     /// A found path is read from the viewing module.
     pub const READ_BACK: usize = 64;
 }

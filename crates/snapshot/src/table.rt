@@ -62,6 +62,8 @@ pub fn map_root(area: &[u32], map: usize) -> ModuleId
 }
 
 /// The own map of a crate, +1.
+// The word of the table, as the definition `own_map` has it: in an accepted snapshot each crate has an own map, so readers take the 1 away, where
+// an `Option` would be matched for a case that never comes.
 pub fn own_map(area: &[u32], krate: Crate) -> usize
     requires { krate.0 < 2 ^ 32 }
     ensures { result ≡ own_map area.now krate.0 }

@@ -46,10 +46,7 @@ pub fn read_input(rt: &impl Input, bytes: &mut [u8]) -> Result<usize, Unread>
 pub fn read_as_far(rt: &impl Input, bytes: &mut [u8]) -> usize
     ensures { IsPrefixLen result bytes.new }
 {
-    match read_input(rt, bytes) {
-        Ok(n) => n,
-        Err(unread) => unread.count,
-    }
+    read_input(rt, bytes).unwrap_or_else(|unread| unread.count)
 }
 
 /// Says on standard error that standard input cannot be read.

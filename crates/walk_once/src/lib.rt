@@ -47,7 +47,7 @@ pub fn take_walk(records: &Records, area: &mut Area, from: ModuleId, sought: Sou
 }
 
 // Whether a level is a search for the item.
-// `any_level` with another test than that of `local_levels::visited`: no more is left of either.
+// `local_levels::visited` calls `any_level` too, with another test: the call is all that they share.
 fn is_on(area: &[u32], s: Stack, sought: Sought) -> bool
     requires { Chain area.now s.place s.depth (length area.now) }
     ensures { result ≡ false → (m : ℕ) → visited (levels_of area.now s.place s.depth) sought.item m ≡ false }

@@ -10,7 +10,7 @@ use window_state::window::WindowCount;
 /// A turn: idle, or the window that was served and the report of its question.
 #[derive(Clone, Copy)]
 pub struct Turn {
-    // A flag, no Option: a rule of the project needs it, for the theorem `idle_exactly` and docs/DECISIONS.md name it.
+    // A flag, no Option: a theorem stands as it stood, and `idle_exactly` says `(turn_of S W area).idle ≡ true` of this field.
     pub idle: bool,
     pub window: usize,
     pub report: Report,

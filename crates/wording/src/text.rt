@@ -27,6 +27,8 @@ pub fn chosen<'a>(n: u32, m: u32, text: &'a [u8], other: &'a [u8]) -> &'a [u8]
 }
 
 // What a refusal's number means; a number with no meaning of its own has that of an area.
+// By numbers: `put_refusal` takes any, and there is no `Refusal` for the others. A row of `chosen`, as the definition is a row of `choose`: a `match`
+// of eleven numbers would be proved against it case by case.
 fn meaning(n: u32) -> &'static [u8]
     ensures { result.now ≡ meaning n }
 {
@@ -126,7 +128,8 @@ fn put_first_lines(out: &mut [u8], at: usize, l: Layout) -> usize
 }
 
 // The kinds from children to externs.
-// As `put_first_lines` of other kinds. One loop over labels and counts would have the length of what is put as an invariant; here the clauses add it up.
+// As `put_first_lines`, of other kinds. A loop over labels and counts needs an invariant that bounds what it has put so far; here the bound of
+// each `put_line` gives it.
 fn put_last_lines(out: &mut [u8], at: usize, l: Layout) -> usize
     requires { at + 179 ≤ length out.old }
     ensures put { Put out.old at (last_lines l.children l.preludes l.definitions l.scopes l.imports l.externs)

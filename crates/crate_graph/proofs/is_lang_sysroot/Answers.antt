@@ -9,6 +9,6 @@ pub returns : goal.returns
 returns c =
     λ A.
     let S = snap_by c.args.records.now A in
-    ap₂ (λ o t. eqb o c.args.c.0 && t) c.dependency_owner-owner.ensures
+    ap₂ ◌&&◌ (c.eq.ensures ∙ ap (λ o. eqb o c.args.c.0) c.dependency_owner.ensures)
     (ap₂ ◌&&◌ (ap (λ n. eqb n 1) c.dependency_sysroot-inside.ensures)
     (ap (λ n. eqb n c.args.lang) (c.origin_of-origin.ensures A ∙ ap (λ d. (crate_data S d).origin) c.dependency_crate.ensures)))

@@ -2,12 +2,12 @@ use lib.Dec.{eqb}
 use Rattle.std.proofs.Common.{rules}
 use Rattle.snapshot.specs.Records.{prelude_at}
 use Rattle.hir_def.specs.Nameres.{prelude_of}
-use Rattle.hir_def.proofs.Searches.{first_by}
+use Rattle.hir_def.proofs.Searches.{first_in}
 use Rattle.crate_graph.proofs.prelude_of.Goals as goal
 
 pub returns : goal.returns
 unfolding prelude_of
 returns c =
     λ A.
-    first_by (λ p. eqb p.map c.args.map) prelude_at c.args.records.now.words.now _ _ c.prelude_base.ensures
+    first_in (λ p. eqb p.map c.args.map) prelude_at c.args.records.now.words.now c.preludes.ensures
     (λ h t p. search rules) _ c.first_where.ensures

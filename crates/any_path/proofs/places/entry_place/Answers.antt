@@ -1,24 +1,22 @@
-use mathlib.Core.Path.{sym, ap}
-use Rattle.std.specs.Prelude.{option_map, Option, ℕ}
-use Rattle.snapshot.specs.Records.{scope_at, extern_at}
+use mathlib.Core.Path.{◌≡◌, refl, ◌∙◌}
+use Rattle.std.specs.Prelude.{option_map, Option, Some, None, ℕ, List}
+use Rattle.std.specs.Option.{unwrap_or}
+use Rattle.snapshot.specs.Records.{Snapshot, scope_at, extern_at}
 use Rattle.hir_def.specs.Entries.{entry_of}
 use Rattle.nameable.specs.Paths.{as_named, extern_named, place_in}
 use Rattle.any_path.proofs.places.entry_place.Goals as goal
 
-pub returns-in-Some : goal.returns-in-Some
+entry_in : (s : Snapshot) (W : List ℕ) (e : Option ℕ) → unwrap_or e 0 ≡ place_in (option_map (as_named s) (entry_of scope_at W e))
 unfolding place_in
-returns-in-Some c =
-    λ s W.
-    let e = c.in-Some.is in (
-      sym (ap (λ (x : Option ℕ). place_in (option_map (as_named s) (entry_of scope_at W x))) e),
-      sym (ap (λ (x : Option ℕ). place_in (option_map extern_named (entry_of extern_at W x))) e),
-    )
+entry_in s W (Some h) = refl
+entry_in s W None = refl
 
-pub returns-in-None : goal.returns-in-None
+extern_in : (W : List ℕ) (e : Option ℕ) → unwrap_or e 0 ≡ place_in (option_map extern_named (entry_of extern_at W e))
 unfolding place_in
-returns-in-None c =
+extern_in W (Some h) = refl
+extern_in W None = refl
+
+pub returns : goal.returns
+returns c =
     λ s W.
-    let e = c.in-None.is in (
-      sym (ap (λ (x : Option ℕ). place_in (option_map (as_named s) (entry_of scope_at W x))) e),
-      sym (ap (λ (x : Option ℕ). place_in (option_map extern_named (entry_of extern_at W x))) e),
-    )
+    (c.unwrap_or.ensures ∙ entry_in s W c.args.e, c.unwrap_or.ensures ∙ extern_in W c.args.e)

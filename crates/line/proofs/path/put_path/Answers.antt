@@ -1,6 +1,6 @@
 use mathlib.Core.Path.{refl, ◌∙◌}
 use native.Mathlib.Omega.{arith}
-use Rattle.line.proofs.Laws.{tail_none, tail_next, path_done}
+use Rattle.line.proofs.Laws.{tail_none, tail_next, path_done_all}
 use Rattle.printing.proofs.Laws.{put_as, put_two, put_none}
 use Rattle.find_path.specs.Line.{written_of}
 use Rattle.accept.specs.Opened.{snap_in}
@@ -37,7 +37,7 @@ loop-i-preserved c =
 pub returns : goal.returns
 returns c = let l = c.loop-i in
     let p = c.put_prefix-to.ensures in record {
-      put = put_as (path_done (written_of (snap_in c.args.db.now) c.args.edition)
+      put = put_as (path_done_all (written_of (snap_in c.args.db.now) c.args.edition)
           c.args.kind c.args.names.now l.i l.invariant.0 (omega arith))
           (put_two p.put l.invariant.2);
       upper_bound = omega (arith, l.invariant.0, l.invariant.3, p.upper_bound, c.requires.count_bound);

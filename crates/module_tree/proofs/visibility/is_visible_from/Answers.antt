@@ -15,7 +15,7 @@ returns-in-Public c =
 
 pub returns-in-InCrate : goal.returns-in-InCrate
 returns-in-InCrate c =
-    ap₂ eqb c.krate-here.ensures (sym (ap visibility_number c.in-InCrate.is))
+    c.eq.ensures ∙ ap₂ eqb c.krate.ensures (sym (ap visibility_number c.in-InCrate.is))
     ∙ visible_crate (snap_of c.args.db.now.records.words.now c.args.db.now.area.now c.args.db.now.records.layout) _ (visibility_number c.args.visibility)
     c.args.viewer.0 (ap visibility_kind c.in-InCrate.is)
 

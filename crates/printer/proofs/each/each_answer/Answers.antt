@@ -26,7 +26,7 @@ loop-at-preserved g c =
 pub returns : goal.returns
 returns g c =
     let p = c.loop-at.invariant.3 [] c.loop-at.each (end c.loop-at-test.false) refl in
-    (c.check-c.result, p.0, c.loop-at.each, p.1, p.2)
+    (c.check-c.result, p.0, p.1, p.2)
 
 pub loop-at-smaller : goal.loop-at-smaller
 loop-at-smaller g c =

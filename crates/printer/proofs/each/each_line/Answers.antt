@@ -43,10 +43,10 @@ returns-in-Err g c =
 pub returns-then-k-words : goal.returns-then-k-words
 returns-then-k-words g c =
     let f = sym c.in_default.ensures in
-    took_turns g.F.FnMut _ _ _ _ _ c.words_in.ensures.0 c.first_question-k.ensures.0 f c.each_answer.ensures
+    took_turns g.F.FnMut _ _ _ _ _ _ c.words_in.ensures.0 c.first_question-k.ensures.0 f c.each_answer.ensures
 
 pub returns : goal.returns
 returns g c =
     let f = sym c.in_default.ensures in
     let e = none_printed c.args.bytes.now _ _ c.words_in.ensures.0 c.first_question-k.ensures.0 f c.if-k-words.false in
-    (c.args.each, subst (λ ts. FoldsTo (λ p t q. CalledAt g.F.FnMut p t (Ok tt) q) c.args.each ts c.args.each) e refl)
+    subst (λ ts. FoldsTo (λ p t q. CalledAt g.F.FnMut p t (Ok tt) q) c.args.each.now ts c.args.each.now) e refl
