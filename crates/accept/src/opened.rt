@@ -6,7 +6,7 @@ use snapshot::records::Records;
 /// The words that were accepted, with the layout and the tables that the check left.
 // A function that writes to the area takes `Records` and the area: while a snapshot is there, its area is only read.
 // That a module or a name is there stays a clause of each reader: a value of a snapshot with its module would be made anew at each step of a walk
-// through modules, and where the module stays the same, each use of the words or of the area would be read out of that value.
+// through modules. Where the module stays the same, the readers of paths take a `hir_def::View`.
 #[derive(Clone, Copy)]
 pub struct Snapshot<'w, 'a> {
     pub records: Records<'w>,

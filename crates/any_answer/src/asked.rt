@@ -10,6 +10,7 @@ use accept::check::Refused;
 use accept::opened::Snapshot;
 use checked::faults::{call_fault, question_fault};
 use find_path::Query;
+use hir_def::View;
 use hir_def::items::item_of;
 use shortest_paths::shortest::shortest;
 use snapshot::ids::Area;
@@ -37,7 +38,8 @@ fn answered(
         return Ok(without(AnyOutcome::Nowhere, 0));
     };
     let db = Snapshot { records, area };
-    let route = route_of(&db, q.from, q.ns, t);
+    let view = View { db, from: q.from };
+    let route = route_of(&view, q.ns, t);
     Ok(reported(t, route))
 }
 

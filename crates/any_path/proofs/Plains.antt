@@ -29,7 +29,7 @@ use Rattle.tree_rules.specs.Privately.{block_step}
 use Rattle.module_tree.proofs.Laws.{Falls}
 use Rattle.module_tree.proofs.Reading.{length_modules}
 use Rattle.hir_def.specs.Finds.{first_of, first_some, or_first, select}
-use Rattle.hir_def.specs.Items.{types, item_of, module_item}
+use Rattle.hir_def.specs.Items.{types, module_item}
 use Rattle.hir_def.specs.Nameres.{steps_or, steps, prelude_of}
 use Rattle.hir_def.specs.declared.Item.{Item}
 use Rattle.hir_def.specs.declared.Item.TheVariants.{Mod, Def}
@@ -138,10 +138,6 @@ mod_is m e f = let z : m.0 + 1 ≡ suc m.0 = omega arith in z ∙ ap module_no (
 pub def_is : {ns : Namespace} {d : DefinitionId} {i j : Item} → i ≡ Def ns d → i ≡ j → plus_one None ≡ module_no j
 unfolding plus_one module_no
 def_is e f = ap module_no (sym e ∙ f)
-
-pub entry_item : (s : Snapshot) (e : Scope) {i : Item} {ns d : ℕ} → i ≡ item_of s ns d → ns ≡ e.ns → d ≡ e.definition
-    → i ≡ item_of s e.ns e.definition
-entry_item s e q a b = q ∙ ap₂ (item_of s) a b
 
 pub mod_no : (m : ModuleId) {t : ℕ} → m.0 ≡ t → plus_one (Some m) ≡ suc t
 unfolding plus_one

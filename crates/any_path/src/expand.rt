@@ -13,6 +13,7 @@ ghost use Rattle.any_path.specs.Rows.{way_at, run_at, Run, Grown, leads_on, with
 
 use crate::rows::{Row, offer};
 use accept::opened::Snapshot;
+use hir_def::View;
 use hir_def::items::first_of;
 use item_scope::is_module_entry;
 use seen_entries::entries::seen;
@@ -23,12 +24,12 @@ use snapshot::records::Records;
 use snapshot::words::word;
 
 // Whether the entry with its head at a place leads on from the module to another.
-pub(crate) fn leads_on(db: &Snapshot, from: ModuleId, m: ModuleId, h: usize) -> bool
-    requires { (from.0 < db.now.records.layout.modules) × ScopeFits (counts_in db.now.records.layout) (scope_at db.now.records.words.now h) }
-    ensures { result ≡ leads_on (snap_in db.now) from.0 m.0 (scope_at db.now.records.words.now h) }
+pub(crate) fn leads_on(view: &View, m: ModuleId, h: usize) -> bool
+    requires { ScopeFits (counts_in view.now.db.records.layout) (scope_at view.now.db.records.words.now h) }
+    ensures { result ≡ leads_on (snap_in view.now.db) view.now.from.0 m.0 (scope_at view.now.db.records.words.now h) }
 {
-    if is_module_entry(&db.records, h, m) {
-        return seen(db, from, h);
+    if is_module_entry(&view.db.records, h, m) {
+        return seen(view, h);
     }
     false
 }
@@ -53,7 +54,8 @@ fn offer_entry(
         records: *records,
         area,
     };
-    if leads_on(&db, from, m, h) {
+    let view = View { db, from };
+    if leads_on(&view, m, h) {
         let target = first_of(records, scope_definition(records.words, h));
         let name = scope_name(records.words, h);
         let row = Row {
@@ -82,6 +84,7 @@ pub(crate) fn expand(
         (added (snap_by records.now area.old) from.0 (run_at area.old n)
         (paths_after (snap_by records.now area.old) from.0 types (way_at area.old i))) }
 {
+    // `base + size * k` as in a `Span`: a method for it would be this sum under a name.
     let base = records.layout.scope_base();
     let scopes = records.layout.scopes;
     let mut count = n;

@@ -18,6 +18,7 @@ use crate::plain::{module_read, place_read, read_plain};
 use crate::rows::{Row, offer};
 use accept::opened::Snapshot;
 use crate_graph::prelude_of;
+use hir_def::View;
 use module_tree::modules::{krate, map};
 use seen_entries::privacy::block_step;
 use snapshot::ids::{Crate, ModuleId, Name, Namespace};
@@ -35,7 +36,8 @@ fn offer_plain(records: &Records, area: &mut [u32], from: ModuleId, n: usize, na
         records: *records,
         area,
     };
-    let r = read_plain(&db, from, Namespace::TYPES, name);
+    let view = View { db, from };
+    let r = read_plain(&view, Namespace::TYPES, name);
     let Some(m) = module_read(records, r) else {
         return n;
     };
@@ -68,7 +70,8 @@ fn offer_lead(
         records: *records,
         area,
     };
-    if leads_on(&db, from, m, h) {
+    let view = View { db, from };
+    if leads_on(&view, m, h) {
         return offer_plain(records, area, from, n, scope_name(records.words, h));
     }
     n
@@ -82,6 +85,7 @@ fn offer_scope(records: &Records, area: &mut [u32], from: ModuleId, m: ModuleId,
         (added (snap_by records.now area.old) from.0 (run_at area.old n)
         (names_alone (entries_in (snap_by records.now area.old) from.0 types m.0))) }
 {
+    // `base + size * k` as in a `Span`: a method for it would be this sum under a name.
     let base = records.layout.scope_base();
     let scopes = records.layout.scopes;
     let mut count = n;
@@ -130,8 +134,7 @@ fn offer_owned(
         (name_if (snap_by records.now area.old) from.0 (run_at area.old n)
         (eqb (extern_at records.now.words.now h).owner c.0) (extern_at records.now.words.now h).name) }
 {
-    let owner = extern_owner(records.words, h);
-    if owner.0 != c.0 {
+    if extern_owner(records.words, h) != c {
         return n;
     }
     offer_plain(records, area, from, n, extern_name(records.words, h))
@@ -149,6 +152,7 @@ fn offer_externs(records: &Records, area: &mut [u32], from: ModuleId, n: usize) 
         area,
     };
     let c = krate(&db, from);
+    // `base + size * k` as in a `Span`: a method for it would be this sum under a name.
     let base = records.layout.extern_base();
     let externs = records.layout.externs;
     let mut count = n;

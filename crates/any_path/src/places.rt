@@ -11,7 +11,7 @@ ghost use Rattle.any_path.specs.Rows.{path_at, InRun};
 
 use crate::plain::{externs_named, place_read, read_plain};
 use crate::rows::Row;
-use accept::opened::Snapshot;
+use hir_def::View;
 use seen_entries::lookups::entry_named;
 use snapshot::ids::{ModuleId, Name, Namespace};
 use snapshot::words::word;
@@ -26,22 +26,23 @@ fn entry_place(e: Option<usize>) -> usize
 
 /// The place of the record by which the last name of the path of the row number i is read, 0 for a keyword. It is looked up again: a path
 /// has few names.
-pub fn row_place(db: &Snapshot, from: ModuleId, i: usize) -> usize
-    requires { (from.0 < db.now.records.layout.modules) × InRun (snap_in db.now) from.0 db.now.records.layout.modules db.now.area.now i }
-    ensures { result ≡ place_in (reads (snap_in db.now) from.0 types (path_at db.now.area.now i)) }
+pub fn row_place(view: &View, i: usize) -> usize
+    requires { InRun (snap_in view.now.db) view.now.from.0 view.now.db.records.layout.modules view.now.db.area.now i }
+    ensures { result ≡ place_in (reads (snap_in view.now.db) view.now.from.0 types (path_at view.now.db.area.now i)) }
 {
+    let area = view.db.area;
     let at = Row::BASE + Row::SIZE * i;
-    let link = word(db.area, at + 1);
-    let name = Name(word(db.area, at + 2));
+    let link = word(area, at + 1);
+    let name = Name(word(area, at + 2));
     if link == 0 {
         return 0;
     }
     if link == 1 {
-        return entry_place(externs_named(db, from, Namespace::TYPES, name));
+        return entry_place(externs_named(view, Namespace::TYPES, name));
     }
     if link == 2 {
-        return place_read(read_plain(db, from, Namespace::TYPES, name));
+        return place_read(read_plain(view, Namespace::TYPES, name));
     }
-    let m = ModuleId(word(db.area, Row::BASE + Row::SIZE * (link - 3)));
-    entry_place(entry_named(db, from, m, Namespace::TYPES, name))
+    let m = ModuleId(word(area, Row::BASE + Row::SIZE * (link - 3)));
+    entry_place(entry_named(view, m, Namespace::TYPES, name))
 }

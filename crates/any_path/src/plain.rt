@@ -10,17 +10,16 @@ ghost use Rattle.hir_def.specs.Items.{item_of};
 ghost use Rattle.nameable.specs.Paths.{plain, reads, place_in};
 ghost use Rattle.any_path.specs.Plain.{scopes_named, externs_named, prelude_named, record_read, module_no, module_in};
 
-use accept::opened::Snapshot;
 use crate_graph::prelude_of;
-use hir_def::Item;
 use hir_def::finds::nearest;
-use hir_def::items::item_of;
+use hir_def::items::item_at;
+use hir_def::{Item, View};
 use module_tree::modules::{krate, map};
 use read_back::lookups::extern_named;
 use seen_entries::lookups::entry_named;
 use seen_entries::privacy::block_step;
 use snapshot::ids::{ModuleId, Name, Namespace};
-use snapshot::record::{extern_target, prelude_target, scope_definition, scope_ns};
+use snapshot::record::{extern_target, prelude_target};
 use snapshot::records::Records;
 
 /// The record by which a name is read, with the place of its head: a scope entry or an extern.
@@ -32,53 +31,51 @@ pub enum Reading {
 }
 
 // The nearest seen entry with a namespace and a name, in the viewer's scope or around its blocks.
-fn scopes_named(db: &Snapshot, from: ModuleId, ns: usize, name: Name) -> Option<usize>
-    requires { from.0 < db.now.records.layout.modules }
-    ensures { entry_of scope_at db.now.records.words.now result ≡ scopes_named (snap_in db.now)
-        from.0 ns name.0 }
+fn scopes_named(view: &View, ns: usize, name: Name) -> Option<usize>
+    ensures { entry_of scope_at view.now.db.records.words.now result ≡ scopes_named (snap_in view.now.db)
+        view.now.from.0 ns name.0 }
 {
-    let find = |m| entry_named(db, from, m, ns, name);
-    let outward = |m| block_step(db, m);
-    nearest(from, find, outward)
+    let find = |m| entry_named(view, m, ns, name);
+    let outward = |m| block_step(&view.db, m);
+    nearest(view.from, find, outward)
 }
 
 // The seen entry of the prelude with a namespace and a name.
-fn prelude_named(db: &Snapshot, from: ModuleId, ns: usize, name: Name) -> Option<usize>
-    requires { from.0 < db.now.records.layout.modules }
-    ensures { entry_of scope_at db.now.records.words.now result ≡ prelude_named (snap_in db.now)
-        from.0 ns name.0 }
+fn prelude_named(view: &View, ns: usize, name: Name) -> Option<usize>
+    ensures { entry_of scope_at view.now.db.records.words.now result ≡ prelude_named (snap_in view.now.db)
+        view.now.from.0 ns name.0 }
 {
-    let p = prelude_of(&db.records, map(db, from))?;
-    entry_named(db, from, prelude_target(db.records.words, p), ns, name)
+    let p = prelude_of(&view.db.records, map(&view.db, view.from))?;
+    entry_named(view, prelude_target(view.db.records.words, p), ns, name)
 }
 
 // The extern of the viewer's crate with a name, in types.
-pub(crate) fn externs_named(db: &Snapshot, from: ModuleId, ns: usize, name: Name) -> Option<usize>
-    requires { from.0 < db.now.records.layout.modules }
-    ensures { entry_of extern_at db.now.records.words.now result ≡ externs_named (snap_in db.now)
-        from.0 ns name.0 }
+// `read_back::in_externs` has the test and the lookup, and answers the module: each is stated over a definition of its own.
+pub(crate) fn externs_named(view: &View, ns: usize, name: Name) -> Option<usize>
+    ensures { entry_of extern_at view.now.db.records.words.now result ≡ externs_named (snap_in view.now.db)
+        view.now.from.0 ns name.0 }
 {
     if ns != Namespace::TYPES {
         return None;
     }
-    extern_named(&db.records, krate(db, from), name)
+    extern_named(&view.db.records, krate(&view.db, view.from), name)
 }
 
 /// The record by which a name alone is read in a namespace.
-pub fn read_plain(db: &Snapshot, from: ModuleId, ns: usize, name: Name) -> Option<Reading>
-    requires { from.0 < db.now.records.layout.modules }
-    ensures { record_read (snap_in db.now) db.now.records.words.now result
-        ≡ reads (snap_in db.now) from.0 ns (plain name.0) }
+// Early returns: what is found by each lookup is told by a variant of its own.
+pub fn read_plain(view: &View, ns: usize, name: Name) -> Option<Reading>
+    ensures { record_read (snap_in view.now.db) view.now.db.records.words.now result
+        ≡ reads (snap_in view.now.db) view.now.from.0 ns (plain name.0) }
 {
-    let near = scopes_named(db, from, ns, name);
+    let near = scopes_named(view, ns, name);
     if let Some(h) = near {
         return Some(Reading::Scope(h));
     }
-    let outer = externs_named(db, from, ns, name);
+    let outer = externs_named(view, ns, name);
     if let Some(h) = outer {
         return Some(Reading::Extern(h));
     }
-    let h = prelude_named(db, from, ns, name)?;
+    let h = prelude_named(view, ns, name)?;
     Some(Reading::Scope(h))
 }
 
@@ -88,11 +85,7 @@ fn entry_module(records: &Records, h: usize) -> Option<ModuleId>
         → plus_one result ≡ module_no (item_of (snap_by records.now A) (scope_at records.now.words.now h).ns
         (scope_at records.now.words.now h).definition) }
 {
-    match item_of(
-        records,
-        scope_ns(records.words, h),
-        scope_definition(records.words, h),
-    ) {
+    match item_at(records, h) {
         Item::Mod(m) => Some(m),
         Item::Def(_, _) => None,
     }

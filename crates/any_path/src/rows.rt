@@ -39,6 +39,7 @@ pub(crate) fn is_met(area: &[u32], n: usize, m: usize) -> bool
 }
 
 // A row goes to the end of n, unless its module has one.
+#[tactic(auto, using(crate::proofs::Written::run_small))]
 pub(crate) fn offer(area: &mut [u32], modules: usize, n: usize, row: Row) -> usize
     requires { Run modules area.old n × (modules ≤ module_limit) × (row.target < modules) × (row.link < n + 3)
         × (row.name < 2 ^ 32) × (row.place < 2 ^ 32) }

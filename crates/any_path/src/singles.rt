@@ -24,8 +24,7 @@ fn offer_extern(records: &Records, area: &mut [u32], c: Crate, n: usize, h: usiz
     ensures { Grown records.now.layout.modules area.old n area.new result (with_extern c.0 (run_at area.old n)
         (extern_at records.now.words.now h)) }
 {
-    let owner = extern_owner(records.words, h);
-    if owner.0 != c.0 {
+    if extern_owner(records.words, h) != c {
         return n;
     }
     let target = extern_target(records.words, h);
@@ -60,6 +59,7 @@ pub(crate) fn offer_absolutes(
     if edition_of(records, c) == 2015 {
         return n;
     }
+    // `base + size * k` as in a `Span`: a method for it would be this sum under a name.
     let base = records.layout.extern_base();
     let externs = records.layout.externs;
     let mut count = n;

@@ -1,25 +1,26 @@
 -- Plain names, as the code looks them up.
 use Rattle.arrivals.specs.declared.LastStep.{LastStep}
-use Prim.Native.Nat.{ℕ, ◌<◌, ◌≤◌}
-use mathlib.Core.Path.{◌≡◌, sym, ap, subst, ◌∙◌}
+use Prim.Native.Nat.{ℕ, ◌≤◌}
+use mathlib.Core.Path.{◌≡◌, refl, sym, ap, subst, ◌∙◌}
 use mathlib.Core.List.{List}
 use mathlib.Core.Bool.{Bool, true, false}
-use Rattle.std.specs.Prelude.{Option, None, Some, option_map}
+use Rattle.std.specs.Prelude.{Option, None, Some, MatchOption, option_map}
+use Rattle.std.proofs.lemmas.Option.{MatchOption-at_some, MatchOption-at_none}
 use native.Mathlib.Omega.{arith}
 use Rattle.snapshot.specs.Limits.{module_limit}
 use Rattle.snapshot.specs.Records.{Snapshot, Scope, Prelude, scope_at}
-use Rattle.snapshot.specs.Layouts.{snap_of}
-use Rattle.snapshot.specs.declared.layout.Layout.{Layout}
-use Rattle.accept.specs.Post.{Reads}
+use Rattle.accept.specs.Opened.{snap_in}
 use Rattle.accept.specs.Valid.{Each}
 use Rattle.accept.proofs.Valid.{accepted_valid}
 use Rattle.tree_rules.specs.Modules.{map_no}
 use Rattle.module_tree.proofs.Reading.{length_modules}
+use Rattle.hir_def.specs.Entries.{entry_of}
 use Rattle.hir_def.specs.Finds.{first_some, or_first}
 use Rattle.hir_def.specs.Items.{types, ns_of, item_of, same_item, module_item, defined_item}
 use Rattle.hir_def.specs.ItemScope.{is_for}
 use Rattle.hir_def.specs.Nameres.{prelude_of}
 use Rattle.hir_def.specs.declared.Item.{Item}
+use Rattle.hir_def.specs.declared.View.{View}
 use Rattle.nameable.specs.Seen.{seen}
 use Rattle.nameable.specs.Paths.{Path, plain, scopes_from, reads, item_in, means, place_in}
 use Rattle.nameable.specs.Breadth.{Way, onward, single, is_item, first_to, arrival}
@@ -79,24 +80,38 @@ module _ (s : Snapshot) (from : ℕ) (item : Item) where
   unfolding plain_entry
   entry_far q u = u ∙ sym (or_first_none near far (sym q))
 
+  pub entry_or_else : (W : List ℕ) (o r : Option ℕ) {P : Type 0} → MatchOption o P (λ h. r ≡ Some h)
+      → entry_of scope_at W o ≡ first_some (plain_in s from item) (scopes_from s from)
+      → (P → entry_of scope_at W r ≡ plain_in_prelude s from item (prelude_of s (map_no s from))) → entry_of scope_at W r ≡ plain_entry s from item
+  entry_or_else W None r {P} m q f = entry_far q (f (MatchOption-at_none P (λ h. r ≡ Some h) refl m))
+  entry_or_else W (Some h) r {P} m q f = ap (entry_of scope_at W) (MatchOption-at_some P (λ k. r ≡ Some k) h refl m) ∙ entry_near q
+
 -- The rows of a run.
-module _ (W A : List ℕ) (l : Layout) (r : Reads W A l) (from n : ℕ) (known : from < l.modules) {b : Bool}
-    (ready : Ready b (snap_of W A l) from l.modules A n) where
+module _ (v : View) (n : ℕ) {b : Bool} (ready : Ready b v n) where
   abbrev s : Snapshot
-  s = snap_of W A l
+  s = snap_in v.db
+
+  abbrev from : ℕ
+  from = v.from.0
+
+  abbrev W : List ℕ
+  W = v.db.records.words.now
+
+  abbrev A : List ℕ
+  A = v.db.area.now
 
   enough : Plenty s from
-  enough = plenty s (accepted_valid W s r.same) from (rw (length_modules W A l) known)
+  enough = plenty s (accepted_valid W s v.db.reads.same) from (rw (length_modules W A v.db.records.layout) v.inside)
 
   pub ready_few : n ≤ module_limit
-  ready_few = run_small l.modules A n ready.rows r.tables.limited.modules
+  ready_few = run_small v.db.records.layout.modules A n ready.rows v.db.reads.tables.limited.modules
 
-  pub ready_meant : Each (Meant (snap_of W A l) from) (run_at A n)
+  pub ready_meant : Each (Meant (snap_in v.db) from) (run_at A n)
   ready_meant = subst (Each (Meant s from)) (sym ready.same) (run_meant s from enough b)
 
   -- a module, by its row
-  pub leads_module : {item : Item} (q : Option LastStep) (m : ℕ) → item ≡ module_item m → LeadsTo (snap_of W A l) from types A n (way_of m (run_at A n)) q
-      → LeadsTo (snap_of W A l) from (ns_of item) A n (arrival b (snap_of W A l) from item) q
+  pub leads_module : {item : Item} (q : Option LastStep) (m : ℕ) → item ≡ module_item m → LeadsTo (snap_in v.db) from types A n (way_of m (run_at A n)) q
+      → LeadsTo (snap_in v.db) from (ns_of item) A n (arrival b (snap_in v.db) from item) q
   unfolding ns_of
   leads_module q m e h =
       let same : way_of m (run_at A n) ≡ arrival b s from (module_item m) = ap (way_of m) ready.same ∙ arrival_module s from enough b m in
@@ -108,7 +123,7 @@ module _ (W A : List ℕ) (l : Layout) (r : Reads W A l) (from n : ℕ) (known :
 
   -- what is no module, by one name more after a row
   pub leads_keyword : {item : Item} (q : Option LastStep) (k d : ℕ) → b ≡ false → item ≡ defined_item k d
-      → LeadsTo (snap_of W A l) from k A n (past k d) q → LeadsTo (snap_of W A l) from (ns_of item) A n (arrival b (snap_of W A l) from item) q
+      → LeadsTo (snap_in v.db) from k A n (past k d) q → LeadsTo (snap_in v.db) from (ns_of item) A n (arrival b (snap_in v.db) from item) q
   unfolding ns_of
   leads_keyword q k d eb e h =
       let same : past k d ≡ arrival b s from (defined_item k d) =
@@ -132,8 +147,8 @@ module _ (W A : List ℕ) (l : Layout) (r : Reads W A l) (from n : ℕ) (known :
         ∙ ap (λ (o : Option Path). or_first o (past k d)) (plain_first s from k d)))
 
     -- by its name alone
-    pub leads_plain : {h x : ℕ} → Some (scope_at W h) ≡ plain_entry (snap_of W A l) from (defined_item k d) → x ≡ (scope_at W h).name
-        → Steps (snap_of W A l) from k A n (arrival b (snap_of W A l) from (defined_item k d)) 2 x h
+    pub leads_plain : {h x : ℕ} → Some (scope_at W h) ≡ plain_entry (snap_in v.db) from (defined_item k d) → x ≡ (scope_at W h).name
+        → Steps (snap_in v.db) from k A n (arrival b (snap_in v.db) from (defined_item k d)) 2 x h
     unfolding plain_name path_from place_in
     leads_plain {h} {x} q ex =
         record {
@@ -145,8 +160,8 @@ module _ (W A : List ℕ) (l : Layout) (r : Reads W A l) (from n : ℕ) (known :
         }
 
     -- else by one name more after a row
-    pub leads_past : (q : Option LastStep) → None ≡ plain_entry (snap_of W A l) from (defined_item k d) → LeadsTo (snap_of W A l) from k A n (past k d) q
-        → LeadsTo (snap_of W A l) from k A n (arrival b (snap_of W A l) from (defined_item k d)) q
+    pub leads_past : (q : Option LastStep) → None ≡ plain_entry (snap_in v.db) from (defined_item k d) → LeadsTo (snap_in v.db) from k A n (past k d) q
+        → LeadsTo (snap_in v.db) from k A n (arrival b (snap_in v.db) from (defined_item k d)) q
     unfolding plain_name
     leads_past q e h =
         subst (λ (o : Option Path). LeadsTo s from k A n o q)
@@ -170,10 +185,6 @@ module _ (s : Snapshot) (from m k d : ℕ) (e : Scope) {a : Bool} (ea : a ≡ is
 
   pub plain_not : a ≡ false → false ≡ is_plain_for s from m (defined_item k d) e
   plain_not p = sym (rw (sym ea ∙ p))
-
-pub entry_item : (s : Snapshot) (item : Item) (e : Scope) {t : Bool} {i : Item} {a b : ℕ} → t ≡ same_item i item → i ≡ item_of s a b
-    → a ≡ e.ns → b ≡ e.definition → t ≡ same_item (item_of s e.ns e.definition) item
-entry_item s item e et ei ea eb = et ∙ rw (ei, ea, eb)
 
 -- along the kind of paths
 pub leads_by : (s : Snapshot) (from n : ℕ) (A : List ℕ) (item : Item) (q : Option LastStep) {b c : Bool} → b ≡ c

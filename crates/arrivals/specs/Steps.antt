@@ -3,12 +3,14 @@ use Rattle.arrivals.specs.declared.LastStep.{LastStep}
 use Rattle.std.specs.Prelude.{ℕ, ◌+◌, ◌<◌, ◌≡◌, List, [], ◌∷◌, Bool, true, false, ◌&&◌, eqb, get_or}
 use Rattle.std.specs.Prelude.{Option, None, Some}
 use Rattle.snapshot.specs.Records.{Snapshot, Scope, Prelude}
+use Rattle.accept.specs.Opened.{snap_in}
 use Rattle.tree_rules.specs.Modules.{map_no}
 use Rattle.hir_def.specs.Finds.{first_of, first_some, or_first}
 use Rattle.hir_def.specs.Items.{types, ns_of}
 use Rattle.hir_def.specs.ItemScope.{is_for}
 use Rattle.hir_def.specs.Nameres.{prelude_of}
 use Rattle.hir_def.specs.declared.Item.{Item}
+use Rattle.hir_def.specs.declared.View.{View}
 use Rattle.nameable.specs.Seen.{seen}
 use Rattle.nameable.specs.Paths.{Path, plain, place_in, reads, means, scopes_from}
 use Rattle.nameable.specs.Breadth.{Way, is_item}
@@ -37,9 +39,9 @@ LeadsTo s from ns A n o None = o ≡ None
 
 -- the n rows of the area are a run
 -- (a clause: `named` and the number of rows are arguments of each call, so a type of both would be made at each)
-pub record Ready (b : Bool) (s : Snapshot) (from modules : ℕ) (A : List ℕ) (n : ℕ) : Type 0 where
-  pub rows : Run modules A n
-  pub same : run_at A n ≡ run b s from
+pub record Ready (b : Bool) (v : View) (n : ℕ) : Type 0 where
+  pub rows : Run v.db.records.layout.modules v.db.area.now n
+  pub same : run_at v.db.area.now n ≡ run b (snap_in v.db) v.from.0
 
 -- Plain names of an item that is no module.
 

@@ -14,19 +14,18 @@ ghost use Rattle.nameable.specs.Paths.{plain, means, scopes_from};
 ghost use Rattle.nameable.specs.Breadth.{is_item};
 ghost use Rattle.arrivals.specs.Steps.{is_plain_for, plain_in, plain_in_prelude, plain_entry};
 
-use accept::opened::Snapshot;
 use any_path::plain::{Reading, read_plain};
 use crate_graph::prelude_of;
-use hir_def::Item;
 use hir_def::finds::{first_where, nearest};
-use hir_def::items::{item_of, same_item};
+use hir_def::items::item_at;
 use hir_def::spans::scopes;
+use hir_def::{Item, View};
 use item_scope::is_for;
 use module_tree::modules::map;
 use seen_entries::entries::seen;
 use seen_entries::privacy::block_step;
 use snapshot::ids::{DefinitionId, ModuleId, Name, Namespace};
-use snapshot::record::{prelude_target, scope_definition, scope_name, scope_ns};
+use snapshot::record::{prelude_target, scope_name};
 use snapshot::records::Records;
 
 // Whether the entry with its head at a place is for the item.
@@ -34,98 +33,69 @@ fn is_entry_for(records: &Records, h: usize, item: Item) -> bool
     ensures { (A : List ℕ) → result ≡ same_item (item_of (snap_by records.now A) (scope_at records.now.words.now h).ns
         (scope_at records.now.words.now h).definition) item }
 {
-    let ns = scope_ns(records.words, h);
-    same_item(
-        item_of(records, ns, scope_definition(records.words, h)),
-        item,
-    )
+    item_at(records, h) == item
 }
 
 // Whether a plain name means the item, which is no module.
-fn means_item(db: &Snapshot, from: ModuleId, ns: Namespace, d: DefinitionId, name: Name) -> bool
-    requires { from.0 < db.now.records.layout.modules }
-    ensures { result ≡ is_item (defined_item ns.0 d.0) (means (snap_in db.now) from.0
+fn means_item(view: &View, ns: Namespace, d: DefinitionId, name: Name) -> bool
+    ensures { result ≡ is_item (defined_item ns.0 d.0) (means (snap_in view.now.db) view.now.from.0
         ns.0 (plain name.0)) }
 {
-    match read_plain(db, from, ns.0, name) {
-        Some(Reading::Scope(h)) => is_entry_for(&db.records, h, Item::Def(ns, d)),
+    match read_plain(view, ns.0, name) {
+        Some(Reading::Scope(h)) => is_entry_for(&view.db.records, h, Item::Def(ns, d)),
         Some(Reading::Extern(_)) => false,
         None => false,
     }
 }
 
 // Whether the entry with its head at a place is a seen one of the module for the item, whose name alone means the item.
-fn is_plain_for(
-    db: &Snapshot,
-    from: ModuleId,
-    m: ModuleId,
-    ns: Namespace,
-    d: DefinitionId,
-    h: usize,
-) -> bool
-    requires { (from.0 < db.now.records.layout.modules) × ScopeFits (counts_in db.now.records.layout) (scope_at db.now.records.words.now h) }
-    ensures { result ≡ is_plain_for (snap_in db.now) from.0 m.0 (defined_item ns.0 d.0)
-        (scope_at db.now.records.words.now h) }
+fn is_plain_for(view: &View, m: ModuleId, ns: Namespace, d: DefinitionId, h: usize) -> bool
+    requires { ScopeFits (counts_in view.now.db.records.layout) (scope_at view.now.db.records.words.now h) }
+    ensures { result ≡ is_plain_for (snap_in view.now.db) view.now.from.0 m.0 (defined_item ns.0 d.0)
+        (scope_at view.now.db.records.words.now h) }
 {
-    if is_for(&db.records, h, m, Item::Def(ns, d)) {
-        if seen(db, from, h) {
-            return means_item(db, from, ns, d, scope_name(db.records.words, h));
+    if is_for(&view.db.records, h, m, Item::Def(ns, d)) {
+        if seen(view, h) {
+            return means_item(view, ns, d, scope_name(view.db.records.words, h));
         }
     }
     false
 }
 
 // The first such entry of the module: the call of `first_where` with a test, as in `item_scope::get`.
-fn plain_in(
-    db: &Snapshot,
-    from: ModuleId,
-    m: ModuleId,
-    ns: Namespace,
-    d: DefinitionId,
-) -> Option<usize>
-    requires { from.0 < db.now.records.layout.modules }
-    ensures { entry_of scope_at db.now.records.words.now result ≡ plain_in (snap_in db.now) from.0
+fn plain_in(view: &View, m: ModuleId, ns: Namespace, d: DefinitionId) -> Option<usize>
+    ensures { entry_of scope_at view.now.db.records.words.now result ≡ plain_in (snap_in view.now.db) view.now.from.0
         (defined_item ns.0 d.0) m.0 }
 {
-    let test = |h| is_plain_for(db, from, m, ns, d, h);
-    first_where(scopes(&db.records), test)
+    let test = |h| is_plain_for(view, m, ns, d, h);
+    first_where(scopes(&view.db.records), test)
 }
 
 // The first in the viewer's scopes.
-fn plain_around(db: &Snapshot, from: ModuleId, ns: Namespace, d: DefinitionId) -> Option<usize>
-    requires { from.0 < db.now.records.layout.modules }
-    ensures { entry_of scope_at db.now.records.words.now result ≡ first_some (plain_in (snap_in db.now)
-        from.0 (defined_item ns.0 d.0)) (scopes_from (snap_in db.now) from.0) }
+fn plain_around(view: &View, ns: Namespace, d: DefinitionId) -> Option<usize>
+    ensures { entry_of scope_at view.now.db.records.words.now result ≡ first_some (plain_in (snap_in view.now.db)
+        view.now.from.0 (defined_item ns.0 d.0)) (scopes_from (snap_in view.now.db) view.now.from.0) }
 {
-    let find = |m| plain_in(db, from, m, ns, d);
-    let outward = |m| block_step(db, m);
-    nearest(from, find, outward)
+    let find = |m| plain_in(view, m, ns, d);
+    let outward = |m| block_step(&view.db, m);
+    nearest(view.from, find, outward)
 }
 
 // The first in the prelude of the viewer's map.
-fn plain_in_prelude(db: &Snapshot, from: ModuleId, ns: Namespace, d: DefinitionId) -> Option<usize>
-    requires { from.0 < db.now.records.layout.modules }
-    ensures { entry_of scope_at db.now.records.words.now result ≡ plain_in_prelude (snap_in db.now)
-        from.0 (defined_item ns.0 d.0) (prelude_of (snap_in db.now)
-        (map_no (snap_in db.now) from.0)) }
+fn plain_in_prelude(view: &View, ns: Namespace, d: DefinitionId) -> Option<usize>
+    ensures { entry_of scope_at view.now.db.records.words.now result ≡ plain_in_prelude (snap_in view.now.db)
+        view.now.from.0 (defined_item ns.0 d.0) (prelude_of (snap_in view.now.db)
+        (map_no (snap_in view.now.db) view.now.from.0)) }
 {
-    let p = prelude_of(&db.records, map(db, from))?;
-    plain_in(db, from, prelude_target(db.records.words, p), ns, d)
+    let p = prelude_of(&view.db.records, map(&view.db, view.from))?;
+    plain_in(view, prelude_target(view.db.records.words, p), ns, d)
 }
 
 /// The entry by which a plain name means the item, which is no module.
-pub(crate) fn plain_entry(
-    db: &Snapshot,
-    from: ModuleId,
-    ns: Namespace,
-    d: DefinitionId,
-) -> Option<usize>
-    requires { from.0 < db.now.records.layout.modules }
-    ensures { entry_of scope_at db.now.records.words.now result ≡ plain_entry (snap_in db.now)
-        from.0 (defined_item ns.0 d.0) }
+pub(crate) fn plain_entry(view: &View, ns: Namespace, d: DefinitionId) -> Option<usize>
+    ensures { entry_of scope_at view.now.db.records.words.now result ≡ plain_entry (snap_in view.now.db)
+        view.now.from.0 (defined_item ns.0 d.0) }
 {
-    if let Some(h) = plain_around(db, from, ns, d) {
-        return Some(h);
-    }
-    plain_in_prelude(db, from, ns, d)
+    let outer = || plain_in_prelude(view, ns, d);
+    plain_around(view, ns, d).or_else(outer)
 }

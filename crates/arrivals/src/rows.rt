@@ -10,9 +10,8 @@ ghost use Rattle.any_path.specs.Rows.{run_at, Run, Meant};
 ghost use Rattle.arrivals.specs.Steps.{way_of, LeadsTo};
 
 use crate::LastStep;
-use accept::opened::Snapshot;
 use any_path::rows::Row;
-use hir_def::Item;
+use hir_def::{Item, View};
 use seen_entries::lookups::entry_for;
 use snapshot::ids::ModuleId;
 use snapshot::record::scope_name;
@@ -39,16 +38,16 @@ pub(crate) fn row_of(area: &[u32], n: usize, m: ModuleId) -> Option<LastStep>
 }
 
 // One name more after the first of n rows whose module has a seen entry for the item.
-pub(crate) fn by_rows(db: &Snapshot, from: ModuleId, n: usize, item: Item) -> Option<LastStep>
-    requires { (from.0 < db.now.records.layout.modules) × (n ≤ module_limit) × Each (Meant (snap_in db.now) from.0) (run_at db.now.area.now n) }
-    ensures { LeadsTo (snap_in db.now) from.0 (ns_of item) db.now.area.now n
-        (first_to (snap_in db.now) from.0 item
-        (onward (snap_in db.now) from.0 (ns_of item) (run_at db.now.area.now n))) result }
+pub(crate) fn by_rows(view: &View, n: usize, item: Item) -> Option<LastStep>
+    requires { (n ≤ module_limit) × Each (Meant (snap_in view.now.db) view.now.from.0) (run_at view.now.db.area.now n) }
+    ensures { LeadsTo (snap_in view.now.db) view.now.from.0 (ns_of item) view.now.db.area.now n
+        (first_to (snap_in view.now.db) view.now.from.0 item
+        (onward (snap_in view.now.db) view.now.from.0 (ns_of item) (run_at view.now.db.area.now n))) result }
 {
     for i in 0..n {
-        let m = ModuleId(word(db.area, Row::BASE + Row::SIZE * i));
-        if let Some(h) = entry_for(db, from, m, item) {
-            let name = scope_name(db.records.words, h);
+        let m = ModuleId(word(view.db.area, Row::BASE + Row::SIZE * i));
+        if let Some(h) = entry_for(view, m, item) {
+            let name = scope_name(view.db.records.words, h);
             return Some(LastStep {
                 link: i + 3,
                 name: name.0,

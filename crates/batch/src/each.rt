@@ -17,6 +17,7 @@ use snapshot::kind::Size;
 use snapshot::layout::Layout;
 
 /// Writes the report of each question on checked words, which stay so.
+// By `size * i`: the library's `as_chunks_mut` says nothing of what its slice ends as, and the reports are just that.
 pub fn report_each(
     words: &[u32],
     area: &mut Area,

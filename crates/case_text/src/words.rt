@@ -1,7 +1,7 @@
 //! Words that are written in hexadecimal, with a space or a line end after each.
 //! After four words k, n, h and a, a star drops them and writes n words more: copies of the k words before, in each copy
 //! with h added to the heads and a to the arguments.
-ghost use Rattle.std.specs.Prelude.{◌≡◌, ◌<◌, replicate, take, IfOk};
+ghost use Rattle.std.specs.Prelude.{◌≡◌, ◌<◌, ◌≤◌, length, replicate, take, IfOk};
 ghost use Rattle.case_text.specs.Words.{digit_of, code_of, IsDigit, next_word, under_way, read_to, stored, raised_by, copied, repeated, words_read};
 
 use std::alloc::{AllocError, Global};
@@ -84,11 +84,12 @@ impl Repeat {
     // Writes the words from a place on, as far as there is room.
     // A word may be made of one that this loop wrote, and each is raised: `copy_within` does neither.
     fn copy_on(&self, words: &mut [u32], from: usize) -> usize
+        requires { from ≤ length words.old }
         ensures { read_to words.new result ≡ copied self.now.count self.now.back self.now.heads self.now.arguments (read_to words.old from) }
     {
         let back = self.back as usize;
-        let mut i = from;
-        for _ in 0..self.count {
+        let end = from + self.count as usize;
+        for i in from..end {
             if i < back {
                 return i;
             }
@@ -96,9 +97,8 @@ impl Repeat {
                 return i;
             }
             words[i] = self.raised(words[i - back]);
-            i += 1;
         }
-        i
+        end
     }
 }
 

@@ -17,16 +17,15 @@ use Rattle.hir_def.proofs.Fits.{home_fits}
 use Rattle.hir_def.specs.ImportMap.{import_info_for, is_hidden, is_unstable}
 use Rattle.hir_def.specs.declared.Item.{Item}
 use Rattle.hir_def.specs.declared.Item.TheVariants.{Mod, Def}
-use Rattle.path_choices.specs.declared.Choice.{Choice}
+use Rattle.path_choices.specs.Choices.{Choice}
 use Rattle.find_path.specs.declared.Tank.{Tank}
-use Rattle.find_path.specs.declared.Found.{Found}
 use Rattle.find_path.specs.declared.FindPathCtx.{FindPathCtx}
 use Rattle.path_choices.specs.Choices.{nothing, extended, push, unstably, better, try_select, length_left}
 use Rattle.find_path.specs.Rules.{module_in}
 use Rattle.find_path.specs.Local.{offer}
 use Rattle.find_path.specs.Meters.{go, draw, from_tank}
 use Rattle.find_path.specs.Conditions.{charged_by}
-use Rattle.find_path.specs.Charged.{Out, found_of, one_or_none, offer_import, find_import, find_imports, find_in_dep, find_in_deps}
+use Rattle.find_path.specs.Charged.{Out, Found, found_of, one_or_none, offer_import, find_import, find_imports, find_in_dep, find_in_deps}
 use Rattle.search_laws.proofs.Unfold.{length_falls}
 use Rattle.search_laws.proofs.Tanks.{module_sum}
 use Rattle.search_laws.proofs.Bounds.{module_search_fits}
@@ -56,8 +55,8 @@ module _ (s : Snapshot) (x : FindPathCtx) where
       (either_few left x.allow_unstable _ _ (offer_few left best (unstably c) i.name _ f g) f)
       (offer_few left best c i.name _ f g)
 
-  pub held_import : (left : ℕ) (o : Out Tank) (i : Import) (b : Bool) → 0 < left → Held left (found_of o)
-      → Held left (found_of (one_import s x left o i b))
+  pub held_import : (left : ℕ) (o : Out Tank) (i : Import) (b : Bool) → 0 < left → Held left o
+      → Held left (one_import s x left o i b)
   unfolding find_import
   held_import left o i true h f = f
   held_import left o i false h f =
@@ -69,19 +68,19 @@ module _ (s : Snapshot) (x : FindPathCtx) where
         tank = omega (arith, f.tank, module_sum s x n i.container o.meter);
       }
 
-  pub held_imports : (left : ℕ) (o : Out Tank) (is : List Import) → 0 < left → Held left (found_of o) → Held left (found_of (imports s x left o is))
+  pub held_imports : (left : ℕ) (o : Out Tank) (is : List Import) → 0 < left → Held left o → Held left (imports s x left o is)
   unfolding find_imports
   held_imports left o [] h f = f
   held_imports left o (i ∷ is) h f = held_imports left (one_import s x left o i (is_hidden i)) is h (held_import left o i (is_hidden i) h f)
 
-  pub held_deps : (left : ℕ) (item : Item) (o : Out Tank) (ds : List Dependency) → 0 < left → Held left (found_of o)
-      → Held left (found_of (dependencies s x left item o ds))
+  pub held_deps : (left : ℕ) (item : Item) (o : Out Tank) (ds : List Dependency) → 0 < left → Held left o
+      → Held left (dependencies s x left item o ds)
   unfolding find_in_deps find_in_dep
   held_deps left item o [] h f = f
   held_deps left item o (d ∷ ds) h f = held_deps left item (imports s x left o (import_info_for s d.crate item)) ds h (held_imports left o (import_info_for s d.crate item) h f)
 
-  pub held_lang : (left : ℕ) (item : Item) (o : Out Tank) (n : ℕ) (b : Bool) → 0 < left → Held left (found_of o)
-      → Held left (found_of (in_lang s x left item o n b))
+  pub held_lang : (left : ℕ) (item : Item) (o : Out Tank) (n : ℕ) (b : Bool) → 0 < left → Held left o
+      → Held left (in_lang s x left item o n b)
   unfolding in_lang
   held_lang left item o n true h f = f
   held_lang left item o n false h f = held_deps left item o (one_or_none (lang_of s x.from_crate.0 n)) h f
@@ -125,8 +124,8 @@ unfolding module_in
 module_small W A l (Mod m) r k = omega (arith, k, r.tables.limited.modules)
 module_small W A l (Def ns d) r k = omega arith
 
-pub held_nothing : (left : ℕ) (t : Tank) {c : Choice} → c ≡ nothing → t.fuel + t.spent < 2 ^ 32 → Held left (record { choice = c; meter = t })
-held_nothing left t e h = let z = ap (λ (c : Choice). c.count) e in record { few = omega arith; tank = h }
+pub held_nothing : (left : ℕ) (t : Tank) → t.fuel + t.spent < 2 ^ 32 → Held left (record { choice = nothing; meter = t })
+held_nothing left t h = record { few = omega arith; tank = h }
 
 -- the home of an item, +1
 home_by_lem : (n : ℕ) (h : ℕ) → ((m : ℕ) → h ≡ suc m → m < n) → h ≤ n

@@ -13,15 +13,14 @@ use Rattle.hir_def.specs.Nameres.{is_dependency, is_sysroot, by_sysroot, depende
 use Rattle.hir_def.specs.ImportMap.{import_info_for}
 use Rattle.hir_def.specs.declared.Item.{Item}
 use Rattle.hir_def.proofs.Lookups.{select_select}
-use Rattle.path_choices.specs.declared.Choice.{Choice}
+use Rattle.path_choices.specs.Choices.{Choice}
 use Rattle.find_path.specs.declared.Tank.{Tank}
-use Rattle.find_path.specs.declared.Found.{Found}
 use Rattle.find_path.specs.declared.FindPathCtx.{FindPathCtx}
 use Rattle.path_choices.specs.Choices.{nothing, length_left}
 use Rattle.find_path.specs.Rules.{module_rules, sought_of}
 use Rattle.find_path.specs.Meters.{Charged, go, stop, from_tank}
 use Rattle.find_path.specs.Conditions.{charged_by}
-use Rattle.find_path.specs.Charged.{Out, found_of, is_stable, langs, one_or_none, is_at, offer_import, find_import, find_in_dep, find_in_deps, find_in_sysroot}
+use Rattle.find_path.specs.Charged.{Out, Found, found_of, is_stable, langs, one_or_none, is_at, offer_import, find_import, find_in_dep, find_in_deps, find_in_sysroot}
 use Rattle.find_path.specs.Charged.{go_on, after_charge, calculate_best_path, or_charged, find_path_for_module}
 use Rattle.find_path.specs.Search.{best_local, module_to, search_module}
 use Rattle.search_laws.proofs.Unfold.{module_more}
@@ -30,6 +29,10 @@ use Rattle.charged_search.specs.Parts.{modules, best_path, one_import, imports, 
 -- an answer of the code, from its parts
 abbrev pub found : Choice → Tank → Found
 found c t = record { choice = c; meter = t }
+
+-- ... and as the rules take it
+abbrev pub taken : Found → Out Tank
+taken f = record { choice = f.choice; meter = f.meter }
 
 -- a home, +1, and its crate
 pub at_none : (s : Snapshot) (h c : ℕ) → h ≡ 0 → false ≡ is_at s h c
@@ -59,10 +62,10 @@ module _ (s : Snapshot) (x : FindPathCtx) where
   rule_more zero m t h = absurd (h refl)
   rule_more (suc n) m t h = module_more Tank from_tank s x (suc n) m t
 
-  pub module_none : (left m : ℕ) (t : Tank) {c : Choice} → left ≡ 0 → c ≡ nothing → found c t ≡ found_of (modules s x left m t)
+  pub module_none : (left m : ℕ) (t : Tank) → left ≡ 0 → found nothing t ≡ found_of (modules s x left m t)
   unfolding search_module module_to
-  module_none zero m t e h = ap (λ (c : Choice). found c t) h
-  module_none (suc n) m t e h = absurd (omega arith)
+  module_none zero m t e = refl
+  module_none (suc n) m t e = absurd (omega arith)
 
   or_yes : (left m : ℕ) (t : Tank) (c : Choice) (b : Bool) → b ≡ true
       → found_of (or_charged Tank from_tank s x (best_local s x) (modules s x) left m t c b) ≡ found c t
@@ -97,11 +100,10 @@ module _ (s : Snapshot) (x : FindPathCtx) where
     unfolding calculate_best_path
     by_charge t d c e h = ap after (sym h ∙ e)
 
-    pub best_empty : (t : Tank) {c : Choice} {d : Result Tank Tank} {u : Tank} → charged_by d ≡ from_tank left (sought_of x item) t → d ≡ Err u → c ≡ nothing
-        → found c u ≡ found_of (best_path s x left item t)
+    pub best_empty : (t : Tank) {d : Result Tank Tank} {u : Tank} → charged_by d ≡ from_tank left (sought_of x item) t → d ≡ Err u
+        → found nothing u ≡ found_of (best_path s x left item t)
     unfolding after_charge charged_by
-    best_empty t {d = d} {u} e h k =
-        ap (λ (c : Choice). found c u) k ∙ ap found_of (by_charge t d (stop u) e (ap charged_by h))
+    best_empty t {d} {u} e h = ap found_of (by_charge t d (stop u) e (ap charged_by h))
 
     pub best_charged : (t : Tank) {d : Result Tank Tank} {u : Tank} → charged_by d ≡ from_tank left (sought_of x item) t → d ≡ Ok u
         → after (go u) ≡ best_path s x left item t
@@ -116,21 +118,19 @@ module _ (s : Snapshot) (x : FindPathCtx) where
         ap (λ (c : Choice). found c t) e
         ∙ sym (ap (λ (b : Bool). found_of (go_on Tank from_tank s x (best_local s x) (modules s x) left item t b x.is_std_item)) h)
 
-    pub go_sysroot : (t : Tank) {c : Choice} → c ≡ nothing → is_at s (home_of s item) x.from_crate.0 ≡ false → x.is_std_item ≡ true
-        → sysroot s x left item (record { choice = c; meter = t }) (langs x.prefer_no_std) (is_stable c) ≡ after (go t)
+    pub go_sysroot : (t : Tank) → is_at s (home_of s item) x.from_crate.0 ≡ false → x.is_std_item ≡ true
+        → sysroot s x left item (record { choice = nothing; meter = t }) (langs x.prefer_no_std) false ≡ after (go t)
     unfolding after_charge go_on
-    go_sysroot t e h k =
-        ap (λ (c : Choice). sysroot s x left item (record { choice = c; meter = t }) (langs x.prefer_no_std) (is_stable c)) e
-        ∙ sym
+    go_sysroot t h k =
+        sym
         (ap (λ (b : Bool). go_on Tank from_tank s x (best_local s x) (modules s x) left item t b x.is_std_item) h
         ∙ ap (λ (b : Bool). go_on Tank from_tank s x (best_local s x) (modules s x) left item t false b) k)
 
-    pub go_dependencies : (t : Tank) {c : Choice} → c ≡ nothing → is_at s (home_of s item) x.from_crate.0 ≡ false → x.is_std_item ≡ false
-        → dependencies s x left item (record { choice = c; meter = t }) (dependencies_of s x.from_crate.0) ≡ after (go t)
+    pub go_dependencies : (t : Tank) → is_at s (home_of s item) x.from_crate.0 ≡ false → x.is_std_item ≡ false
+        → dependencies s x left item (record { choice = nothing; meter = t }) (dependencies_of s x.from_crate.0) ≡ after (go t)
     unfolding after_charge go_on
-    go_dependencies t e h k =
-        ap (λ (c : Choice). dependencies s x left item (record { choice = c; meter = t }) (dependencies_of s x.from_crate.0)) e
-        ∙ sym
+    go_dependencies t h k =
+        sym
         (ap (λ (b : Bool). go_on Tank from_tank s x (best_local s x) (modules s x) left item t b x.is_std_item) h
         ∙ ap (λ (b : Bool). go_on Tank from_tank s x (best_local s x) (modules s x) left item t false b) k)
 

@@ -6,16 +6,11 @@ use Rattle.snapshot.specs.declared.layout.Layout.{Layout}
 use Rattle.hir_def.specs.Nameres.{lang_of}
 use Rattle.hir_def.specs.declared.Item.{Item}
 use Rattle.find_path.specs.declared.Tank.{Tank}
-use Rattle.find_path.specs.declared.Found.{Found}
 use Rattle.find_path.specs.declared.FindPathCtx.{FindPathCtx}
 use Rattle.find_path.specs.Meters.{from_tank}
 use Rattle.find_path.specs.Charged.{Out, Search, one_or_none, find_import, find_imports, find_in_deps, find_in_sysroot, calculate_best_path}
 use Rattle.find_path.specs.Search.{best_local, search_module}
 use Rattle.find_path.specs.Conditions.{Prepared}
-
--- what was found so far, as the rules take it
-abbrev pub out_of : Found → Out Tank
-out_of f = record { choice = f.choice; meter = f.meter }
 
 module _ (s : Snapshot) (x : FindPathCtx) where
   -- the search for a module, and for an item by a charged search
@@ -53,7 +48,7 @@ pub record Begun (W A : List ℕ) (l : Layout) (x : FindPathCtx) (left : ℕ) : 
   pub limit : left ≤ path_limit
 
 -- what was found so far has no more names than the length left, and its tank stays in range
--- (a clause: `Found` is a record of the definitions, which make one of any numbers; so with the bounds of a tank and of a choice)
-pub record Held (left : ℕ) (f : Found) : Type 0 where
-  pub few : f.choice.count ≤ left
-  pub tank : f.meter.fuel + f.meter.spent < 2 ^ 32
+-- (a clause: `Out` is a record of the definitions, which make one of any numbers; so with the bounds of a tank and of a choice)
+pub record Held (left : ℕ) (o : Out Tank) : Type 0 where
+  pub few : o.choice.count ≤ left
+  pub tank : o.meter.fuel + o.meter.spent < 2 ^ 32

@@ -13,12 +13,13 @@ ghost use Rattle.accept.specs.Opened.{snap_in};
 ghost use Rattle.crate_graph.specs.Among.{among};
 ghost use Rattle.hir_def.specs.ImportMap.{import_info_for, is_hidden};
 ghost use Rattle.hir_def.specs.Finds.{select};
-ghost use Rattle.find_path.specs.Charged.{is_stable, is_at, langs, after_charge};
+ghost use Rattle.path_choices.specs.Given.{given};
+ghost use Rattle.find_path.specs.Charged.{out_of, is_stable, is_at, langs, after_charge};
 ghost use Rattle.find_path.specs.Meters.{from_tank, go};
 ghost use Rattle.find_path.specs.Search.{best_local, search_module};
 ghost use Rattle.find_path.specs.declared.Tank.{Tank};
 ghost use Rattle.find_path.specs.Conditions.{Prepared, Asked, Searched};
-ghost use Rattle.charged_search.specs.Parts.{out_of, modules, best_path, one_import, imports, dependencies, sysroot, in_lang, Begun, Held};
+ghost use Rattle.charged_search.specs.Parts.{modules, best_path, one_import, imports, dependencies, sysroot, in_lang, Begun, Held};
 
 use accept::opened::Snapshot;
 use crate_graph::{Which, lang_of, next_dependency};
@@ -29,13 +30,15 @@ use hir_def::modules::krate;
 use import_map::{import_info_for, is_hidden};
 use local_search::calculate_best_path_local;
 use path_offers::offers::offer_import;
-use path_rules::choices::{length_left, nothing};
+use path_rules::choices::length_left;
 use path_rules::context::charge;
 use path_rules::rules::module_rules;
 use search_parts::{is_stable, langs_for};
 use snapshot::ids::{Area, Crate, CrateOrigin, ModuleId};
 use snapshot::record::{dependency_crate, import_container};
 use snapshot::records::Records;
+
+// The context, the length left and the item are parameters of their own, as in the Rust and in the definitions.
 
 // Whether a home is in the crate.
 fn is_at(db: &Snapshot, home: Option<ModuleId>, c: Crate) -> bool
@@ -45,8 +48,7 @@ fn is_at(db: &Snapshot, home: Option<ModuleId>, c: Crate) -> bool
     let Some(m) = home else {
         return false;
     };
-    let k = krate(db, m);
-    k.0 == c.0
+    krate(db, m) == c
 }
 
 /// The search for a module, where externs count: the rules, else the charged search. Length 0 finds no module.
@@ -64,9 +66,8 @@ pub fn find_path_for_module(
         area.new result }
 {
     if left == 0 {
-        let choice = nothing();
         return Found {
-            choice: choice,
+            choice: None,
             meter: t,
         };
     }
@@ -74,10 +75,9 @@ pub fn find_path_for_module(
         records: *records,
         area,
     };
-    let choice = module_rules(&db, x, true, m);
-    if choice.found {
+    if let Some(c) = module_rules(&db, x, true, m) {
         return Found {
-            choice: choice,
+            choice: Some(c),
             meter: t,
         };
     }
@@ -99,13 +99,10 @@ pub fn calculate_best_path(
         area.new result }
 {
     match charge(x, left, item, t) {
-        Err(meter) => {
-            let choice = nothing();
-            Found {
-                choice: choice,
-                meter: meter,
-            }
-        }
+        Err(meter) => Found {
+            choice: None,
+            meter,
+        },
         Ok(meter) => search_charged(records, area, x, left, item, meter),
     }
 }
@@ -132,14 +129,10 @@ fn search_charged(
     };
     if is_at(&db, home, x.from_crate) {
         let choice = calculate_best_path_local(records, area, x, left, item);
-        return Found {
-            choice: choice,
-            meter: t,
-        };
+        return Found { choice, meter: t };
     }
-    let choice = nothing();
     let o = Found {
-        choice: choice,
+        choice: None,
         meter: t,
     };
     if x.is_std_item {
@@ -158,9 +151,9 @@ fn find_in_sysroot(
     item: Item,
     o: Found,
 ) -> Found
-    requires { Begun records.now.words.now area.old records.now.layout x left × Held left o }
+    requires { Begun records.now.words.now area.old records.now.layout x left × Held left (out_of o) }
     ensures { Searched area.old (sysroot (snap_by records.now area.old) x left item (out_of o)
-        (langs x.prefer_no_std) (is_stable o.choice)) area.new result }
+        (langs x.prefer_no_std) (is_stable (given o.choice))) area.new result }
 {
     let langs = langs_for(x.prefer_no_std);
     let a = find_in_lang(records, area, x, left, item, langs.first, o);
@@ -180,12 +173,11 @@ fn find_in_lang(
     lang: CrateOrigin,
     o: Found,
 ) -> Found
-    requires { Begun records.now.words.now area.old records.now.layout x left × Held left o }
+    requires { Begun records.now.words.now area.old records.now.layout x left × Held left (out_of o) }
     ensures { Searched area.old (in_lang (snap_by records.now area.old) x left item
-        (out_of o) (origin_number lang) (is_stable o.choice)) area.new result }
+        (out_of o) (origin_number lang) (is_stable (given o.choice))) area.new result }
 {
-    let choice = o.choice;
-    if is_stable(choice) {
+    if is_stable(o.choice) {
         return o;
     }
     let Some(h) = lang_of(records, x.from_crate, lang.number()) else {
@@ -212,12 +204,11 @@ fn find_in_rest(
     item: Item,
     o: Found,
 ) -> Found
-    requires { Begun records.now.words.now area.old records.now.layout x left × Held left o }
+    requires { Begun records.now.words.now area.old records.now.layout x left × Held left (out_of o) }
     ensures { Searched area.old (sysroot (snap_by records.now area.old) x left item
-        (out_of o) [] (is_stable o.choice)) area.new result }
+        (out_of o) [] (is_stable (given o.choice))) area.new result }
 {
-    let choice = o.choice;
-    if is_stable(choice) {
+    if is_stable(o.choice) {
         return o;
     }
     let a = find_in_deps(records, area, x, left, item, Which::Sysroot, o);
@@ -236,7 +227,7 @@ fn find_in_deps(
     which: Which,
     o: Found,
 ) -> Found
-    requires { Begun records.now.words.now area.old records.now.layout x left × Held left o }
+    requires { Begun records.now.words.now area.old records.now.layout x left × Held left (out_of o) }
     ensures { Searched area.old (dependencies (snap_by records.now area.old) x left item
         (out_of o) (select (among x.from_crate.0 which) (snap_by records.now area.old).dependencies)) area.new result }
 {
@@ -270,7 +261,7 @@ fn find_in_dep(
     c: Crate,
     o: Found,
 ) -> Found
-    requires { Begun records.now.words.now area.old records.now.layout x left × Held left o }
+    requires { Begun records.now.words.now area.old records.now.layout x left × Held left (out_of o) }
     ensures { Searched area.old (imports (snap_by records.now area.old) x left (out_of o)
         (import_info_for (snap_by records.now area.old) c.0 item)) area.new result }
 {
@@ -295,26 +286,23 @@ fn find_import(
     o: Found,
 ) -> Found
     requires { Begun records.now.words.now area.old records.now.layout x left × ((import_at records.now.words.now h).container < records.now.layout.modules)
-        × ImportFits (counts_in records.now.layout) (import_at records.now.words.now h) × Held left o }
+        × ImportFits (counts_in records.now.layout) (import_at records.now.words.now h) × Held left (out_of o) }
     ensures { Searched area.old (one_import (snap_by records.now area.old) x left (out_of o)
         (import_at records.now.words.now h) (is_hidden (import_at records.now.words.now h))) area.new result }
 {
     if is_hidden(records.words, h) {
         return o;
     }
-    let best = o.choice;
-    let t = o.meter;
-    let n = length_left(left, best);
-    let r = find_path_for_module(records, area, x, n, import_container(records.words, h), t);
-    let c = r.choice;
-    let meter = r.meter;
+    let n = length_left(left, o.choice);
+    let m = import_container(records.words, h);
+    let r = find_path_for_module(records, area, x, n, m, o.meter);
     let db = Snapshot {
         records: *records,
         area,
     };
-    let choice = offer_import(&db, x, best, c, h);
+    let choice = offer_import(&db, x, o.choice, r.choice, h);
     Found {
-        choice: choice,
-        meter: meter,
+        choice,
+        meter: r.meter,
     }
 }

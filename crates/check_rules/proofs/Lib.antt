@@ -1,2 +1,3 @@
--- Rows that are computed.
+-- Rows that are computed, and a law of exits.
 pub mod Refused
+pub mod Exits

@@ -9,12 +9,11 @@ use Rattle.snapshot.specs.Records.{Snapshot}
 use Rattle.hir_def.specs.Items.{types, builtin_kind, definition_of, item_of}
 use Rattle.hir_def.specs.declared.Item.{Item}
 use Rattle.readings.specs.Reads.{reads_back}
-use Rattle.path_choices.specs.declared.Choice.{Choice}
-use Rattle.find_path.specs.declared.Found.{Found}
+use Rattle.path_choices.specs.Choices.{Choice, nothing}
 use Rattle.find_path.specs.declared.Query.{Query}
 use Rattle.find_path.specs.declared.Tank.{Tank}
 use Rattle.find_path.specs.Meters.{from_tank, filled}
-use Rattle.find_path.specs.Charged.{found_of}
+use Rattle.find_path.specs.Charged.{Found, found_of}
 use Rattle.find_path.specs.Report.{misleads, searched}
 use Rattle.search_laws.proofs.Bounds.{search_fits}
 
@@ -31,6 +30,15 @@ read true true true d e = absurd (true≢false e)
 read true true false d e = refl
 read true false c d e = absurd (true≢false e)
 read false b c d e = absurd (true≢false e)
+
+no_path : (a : Bool) → false ≡ (a && false)
+no_path true = refl
+no_path false = refl
+
+-- where there is no path, none misleads
+pub nothing_read : (s : Snapshot) (q : Query) → false ≡ misleads s q nothing
+unfolding misleads
+nothing_read s q = no_path _
 
 module _ (s : Snapshot) (q : Query) (c : Choice) {k : Bool} (e : k ≡ eqb (definition_of s q.definition.0).kind builtin_kind) where
   -- what the code tests

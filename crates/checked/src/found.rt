@@ -5,6 +5,7 @@ ghost use Rattle.snapshot.specs.Layouts.{table_words};
 ghost use Rattle.snapshot.specs.Laid.{snap_by};
 ghost use Rattle.accept.specs.Post.{Reads};
 ghost use Rattle.accept.specs.Opened.{snap_in};
+ghost use Rattle.path_choices.specs.Given.{given};
 ghost use Rattle.find_path.specs.Report.{misleads as misleads_in, reported as reported_of, searched};
 
 use accept::opened::Snapshot;
@@ -18,14 +19,17 @@ use snapshot::ids::{Area, DefinitionKind, Namespace, Options};
 use snapshot::records::Records;
 
 // Whether a path was found that is to be read, and does not read back to the item. A builtin in types is not read.
-fn misleads(db: &Snapshot, q: Query, c: Choice) -> bool
-    requires { (q.from.0 < db.now.records.layout.modules) × (c.count ≤ 16) }
-    ensures { result ≡ misleads_in (snap_in db.now) q c }
+fn misleads(db: &Snapshot, q: Query, choice: Option<Choice>) -> bool
+    requires { (q.from.0 < db.now.records.layout.modules) × ((given choice).count ≤ 16) }
+    ensures { result ≡ misleads_in (snap_in db.now) q (given choice) }
 {
+    let Some(c) = choice else {
+        return false;
+    };
     let d = q.definition;
     let builtin = (q.ns == Namespace::TYPES)
         & (known_kind_of(&db.records, d) == Some(DefinitionKind::Builtin));
-    let read = (q.options / Options::READ_BACK % 2 == 1) & (c.found & !builtin);
+    let read = (q.options / Options::READ_BACK % 2 == 1) & !builtin;
     if !read {
         return false;
     }
@@ -41,11 +45,10 @@ pub fn report_in(records: &Records, area: &mut Area, q: Query, fuel: usize) -> R
     ensures area_unchanged { take table_words area.new ≡ take table_words area.old }
 {
     let f = find_path(records, area, q, fuel);
-    let c = f.choice;
     let db = Snapshot {
         records: *records,
         area,
     };
-    let misleading = misleads(&db, q, c);
+    let misleading = misleads(&db, q, f.choice);
     reported(f, misleading)
 }

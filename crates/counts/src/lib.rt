@@ -7,6 +7,7 @@ ghost use Rattle.counts.specs.Counts.{told};
 use snapshot::refusal::Refusal;
 
 /// Writes the new count, which stays after a refusal, and answers the number of the refusal, 0 for none.
+// `reach_parts::tell::tell_reach` is no twin: it writes zeros after a refusal.
 pub fn tell(answer: Result<usize, Refusal>, count: &mut usize) -> usize
     ensures { told count.old answer ≡ record { number = result; count = count.new } }
 {

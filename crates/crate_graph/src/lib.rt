@@ -30,6 +30,7 @@ fn is_extern(words: &[u32], h: usize, c: Crate, m: ModuleId) -> bool
 }
 
 /// The last of the crate's externs that names the module: they are read backwards.
+// `base + size * k` as in a `Span`: a method for it would be this sum under a name.
 pub fn extern_of(records: &Records, c: Crate, m: ModuleId) -> Option<usize>
     ensures { (A : List ℕ) → entry_of extern_at records.now.words.now result ≡ extern_of (snap_by records.now A) c.0 m.0 }
 {

@@ -83,20 +83,17 @@ module _ (W A : List ℕ) (l : Layout) (c h : ℕ) where
   unfolding module_in
   mod_same z = let w = ap module_in z in omega (arith, w)
 
-  module _ {i : Item} {ns d : ℕ} (q : i ≡ item_of S ns d) (en : ns ≡ e.ns) (ed : d ≡ e.definition) where
-    pub entry_item : i ≡ item_of S e.ns e.definition
-    entry_item = rw (← en, ← ed) q
-
+  module _ {i : Item} (q : i ≡ item_of S e.ns e.definition) where
     pub entry_plain : {a b : ℕ} → i ≡ defined_item a b → Named S (distance A) c e
     unfolding Named
-    entry_plain t m p z = absurd (mod_not_def (sym t ∙ entry_item ∙ z))
+    entry_plain t m p z = absurd (mod_not_def (sym t ∙ q ∙ z))
 
     pub entry_below : Reads W A l → ScopeFits (counts_in l) e → {m : ℕ} → i ≡ module_item m → m < l.modules
-    entry_below r f t = subst (Known l) (sym entry_item ∙ t) (item_known W A l r e.ns e.definition f.definition)
+    entry_below r f t = subst (Known l) (sym q ∙ t) (item_known W A l r e.ns e.definition f.definition)
 
     pub entry_marked : (B : List ℕ) {m : ℕ} → i ≡ module_item m → distance B m ≤ 1 → Named S (distance B) c e
     unfolding Named
-    entry_marked B t h m p z = subst (λ k. distance B k ≤ 1) (mod_same (sym t ∙ entry_item ∙ z)) h
+    entry_marked B t h m p z = subst (λ k. distance B k ≤ 1) (mod_same (sym t ∙ q ∙ z)) h
 
 -- the entries of a scope
 pub record Marking (W A₀ : List ℕ) (l : Layout) (c : ℕ) (A : List ℕ) (k : ℕ) : Type 0 where

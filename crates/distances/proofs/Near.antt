@@ -18,7 +18,7 @@ use Rattle.hir_def.specs.ItemScope.{counts, is_for, name_of, names_of, is_fresh,
 use Rattle.hir_def.specs.Nameres.{entry_in, scope_entry, prelude_of}
 use Rattle.hir_def.specs.declared.Item.{Item}
 use Rattle.hir_def.proofs.Fresh.{preferred_has}
-use Rattle.path_choices.specs.declared.Choice.{Choice}
+use Rattle.path_choices.specs.Choices.{Choice}
 use Rattle.find_path.specs.declared.FindPathCtx.{FindPathCtx}
 use Rattle.path_choices.specs.Choices.{nothing}
 use Rattle.find_path.specs.Rules.{first_found, single, find_in_scope, may_be_in_scope, scope_rule, is_usable, prelude_entry, in_prelude, find_in_prelude}

@@ -32,13 +32,32 @@ use Rattle.distances.specs.Distances.{distance, Bounds, Stepped, Ruled, Closed}
 use Rattle.distances.specs.Post.{Ready, Far, Numbered, Marked, Lowers, Smaller, Passed, Bounded}
 use Rattle.distances.proofs.Near.{closed_bounds}
 use Rattle.distances.proofs.Lowering.{rows_each, lowers_same, lowers_then, set_lowers, distances_less, ruled_less}
-use Rattle.distances.proofs.Marking.{entry_item, mod_not_def, mod_same}
+use Rattle.distances.proofs.Marking.{mod_not_def, mod_same}
 
 -- nothing is changed
 pub passed_none : (A : List ℕ) (P : (ℕ → ℕ) → Type 0) → P (distance A) → Passed A P A false
 passed_none A P h = record { lowers = lowers_same A; changed = λ e. absurd (false≢true e); same = λ e. refl; holds = λ e. h }
 
-module _ (W A : List ℕ) (l : Layout) (x : FindPathCtx) (h : ℕ) where
+-- the entry with its head at h as the code reads it: w is the number of its module, i its item
+pub record Step (W A : List ℕ) (l : Layout) (h w : ℕ) (i : Item) : Type 0 where
+  pub number : w ≡ distance A (scope_at W h).owner
+  pub item : i ≡ item_of (snap_of W A l) (scope_at W h).ns (scope_at W h).definition
+
+pub step_read : (W A : List ℕ) (l : Layout) (h : ℕ) {w o : ℕ} {i : Item} → o ≡ (scope_at W h).owner → w ≡ distance A o
+    → i ≡ item_of (snap_of W A l) (scope_at W h).ns (scope_at W h).definition → Step W A l h w i
+step_read W A l h eo ew q = record { number = ew ∙ ap (distance A) eo; item = q }
+
+pub step_far : (W A : List ℕ) (l : Layout) (x : FindPathCtx) (h : ℕ) {w o : ℕ} → o ≡ (scope_at W h).owner → w ≡ distance A o → Reads W A l
+    → Far l.modules A → ScopeFits (counts_in l) (scope_at W h) → 16 ≤ w + 1
+    → Passed A (λ d. Stepped (snap_of W A l) x d (scope_at W h)) A false
+unfolding Stepped
+step_far W A l x h eo ew r far f q =
+    passed_none A (λ d. Stepped (snap_of W A l) x d (scope_at W h))
+    (λ m p i.
+    let b : m < l.modules = subst (Known l) p (item_known W A l r (scope_at W h).ns (scope_at W h).definition f.definition) in
+    let a = far m b in let z = ew ∙ ap (distance A) eo in omega arith)
+
+module _ {W A : List ℕ} {l : Layout} (x : FindPathCtx) {h w : ℕ} {i : Item} (v : Step W A l h w i) where
   abbrev e : Scope
   e = scope_at W h
 
@@ -48,46 +67,35 @@ module _ (W A : List ℕ) (l : Layout) (x : FindPathCtx) (h : ℕ) where
   abbrev Now : (ℕ → ℕ) → Type 0
   Now d = Stepped S x d e
 
-  module _ {w o : ℕ} (eo : o ≡ e.owner) (ew : w ≡ distance A o) where
-    owner_number : w ≡ distance A e.owner
-    owner_number = ew ∙ ap (distance A) eo
+  pub step_below : Reads W A l → ScopeFits (counts_in l) e → {m : ℕ} → i ≡ module_item m → m < module_limit
+  step_below r f t =
+      let b = subst (Known l) (sym v.item ∙ t) (item_known W A l r e.ns e.definition f.definition) in
+      omega (arith, b, r.tables.limited.modules)
 
-    pub step_far : Reads W A l → Far l.modules A → ScopeFits (counts_in l) e → 16 ≤ w + 1 → Passed A Now A false
+  pub step_plain : {a b : ℕ} → i ≡ defined_item a b → Passed A Now A false
+  unfolding Stepped
+  step_plain t = passed_none A Now (λ m p j. absurd (mod_not_def W A l 0 h (sym t ∙ v.item ∙ p)))
+
+  module _ {m : ℕ} (t : i ≡ module_item m) where
+    pub step_low : {u : ℕ} → u ≡ distance A m → u ≤ w + 1 → Passed A Now A false
     unfolding Stepped
-    step_far r far f q =
-        passed_none A Now
-        (λ m p i.
-        let b : m < l.modules = subst (Known l) p (item_known W A l r e.ns e.definition f.definition) in
-        let a = far m b in let z = owner_number in omega arith)
+    step_low eu k = passed_none A Now (λ n p j. let z = v.number in subst (λ y. distance A y ≤ distance A e.owner + 1)
+        (mod_same W A l 0 h (sym t ∙ v.item ∙ p)) (omega arith))
 
-    module _ {i : Item} {ns d : ℕ} (q : i ≡ item_of S ns d) (en : ns ≡ e.ns) (ed : d ≡ e.definition) where
-      pub step_plain : {a b : ℕ} → i ≡ defined_item a b → Passed A Now A false
-      unfolding Stepped
-      step_plain t = passed_none A Now (λ m p j. absurd (mod_not_def W A l 0 h (sym t ∙ entry_item W A l 0 h q en ed ∙ p)))
+    pub step_hidden : {b : Bool} → b ≡ is_importable S x e → b ≡ false → Passed A Now A false
+    unfolding Stepped
+    step_hidden eb z = passed_none A Now (λ n p j. absurd (true≢false (sym j ∙ sym eb ∙ z)))
 
-      module _ {m : ℕ} (t : i ≡ module_item m) where
-        same_module : {n : ℕ} → item_of S e.ns e.definition ≡ module_item n → m ≡ n
-        same_module p = mod_same W A l 0 h (sym t ∙ entry_item W A l 0 h q en ed ∙ p)
-
-        pub step_low : {v : ℕ} → v ≡ distance A m → v ≤ w + 1 → Passed A Now A false
-        unfolding Stepped
-        step_low ev k = passed_none A Now (λ n p j. let z = owner_number in subst (λ y. distance A y ≤ distance A e.owner + 1)
-            (same_module p) (omega arith))
-
-        pub step_hidden : {b : Bool} → b ≡ is_importable S x e → b ≡ false → Passed A Now A false
-        unfolding Stepped
-        step_hidden eb z = passed_none A Now (λ n p j. absurd (true≢false (sym j ∙ sym eb ∙ z)))
-
-        pub step_set : {v : ℕ} → length A ≡ area_limit → m < module_limit → v ≡ distance A m → (v ≤ w + 1 → ⊥)
-            → Passed A Now (set A (table_words + m) (w + 1)) true
-        step_set size known ev k =
-            let s = get_or-set_same A (table_words + m) (w + 1) 0 (omega arith) in
-            record {
-              lowers = set_lowers A (table_words + m) (w + 1) (omega arith) (omega arith) (omega arith);
-              changed = λ _. record { which = m; known = known; smaller = omega (arith, s, ev, k) };
-              same = λ z. absurd (true≢false z);
-              holds = λ z. absurd (true≢false z);
-            }
+    pub step_set : {u : ℕ} → length A ≡ area_limit → m < module_limit → u ≡ distance A m → (u ≤ w + 1 → ⊥)
+        → Passed A Now (set A (table_words + m) (w + 1)) true
+    step_set size known eu k =
+        let s = get_or-set_same A (table_words + m) (w + 1) 0 (omega arith) in
+        record {
+          lowers = set_lowers A (table_words + m) (w + 1) (omega arith) (omega arith) (omega arith);
+          changed = λ _. record { which = m; known = known; smaller = omega (arith, s, eu, k) };
+          same = λ z. absurd (true≢false z);
+          holds = λ z. absurd (true≢false z);
+        }
 
 -- a pass, up to an entry
 pub record Relaxing (W A₀ : List ℕ) (l : Layout) (x : FindPathCtx) (A : List ℕ) (ch : Bool) (k : ℕ) : Type 0 where

@@ -18,13 +18,13 @@ use accept::opened::Snapshot;
 use crate_graph::prelude_of;
 use find_path::FindPathCtx;
 use hir_def::Item;
-use hir_def::items::item_of;
+use hir_def::items::item_at;
 use hir_def::modules::{block, crate_root, map, parent};
 use path_rules::rules::{keyword_rule, may_be_in_scope};
 use rule_lookups::is_importable;
 use snapshot::ids::{Area, ModuleId};
 use snapshot::kind::Size;
-use snapshot::record::{prelude_target, scope_definition, scope_ns, scope_owner};
+use snapshot::record::{prelude_target, scope_owner};
 use snapshot::records::Records;
 use snapshot::table::Tables;
 use snapshot::words::word;
@@ -42,10 +42,11 @@ impl Distances {
 }
 
 // The number of a module with that crate's root.
+// The shape of `told_routes::looked_in`, of other types and under another clause.
 fn first_number(m: ModuleId, root: ModuleId) -> usize
     ensures { (result ≤ 16) × (root.0 ≡ m.0 → result ≤ 1) }
 {
-    if root.0 == m.0 {
+    if root == m {
         return 1;
     }
     Distances::FAR
@@ -86,16 +87,10 @@ fn mark_entry(records: &Records, area: &mut Area, c: ModuleId, h: usize)
     ensures { Lowers area.old area.new × Named (snap_by records.now area.old)
         (distance area.new) c.0 (scope_at records.now.words.now h) }
 {
-    let owner = scope_owner(records.words, h);
-    if owner.0 != c.0 {
+    if scope_owner(records.words, h) != c {
         return;
     }
-    let item = item_of(
-        records,
-        scope_ns(records.words, h),
-        scope_definition(records.words, h),
-    );
-    let Item::Mod(m) = item else {
+    let Item::Mod(m) = item_at(records, h) else {
         return;
     };
     mark(area, m);
@@ -110,6 +105,7 @@ fn mark_scope(records: &Records, area: &mut Area, c: ModuleId)
 {
     let base = records.layout.scope_base();
     let count = records.layout.scopes;
+    // `base + size * k` as in a `Span`: a method for it would be this sum under a name.
     for k in 0..count {
         mark_entry(records, area, c, base + Size::SCOPE * k);
     }
@@ -167,11 +163,9 @@ fn mark_keyword(records: &Records, area: &mut Area, x: FindPathCtx, m: ModuleId)
         records: *records,
         area,
     };
-    let c = keyword_rule(&db, x, m);
-    if !c.found {
-        return;
+    if keyword_rule(&db, x, m).is_some() {
+        mark(area, m);
     }
-    mark(area, m);
 }
 
 // The viewing module and its parent.
@@ -202,12 +196,7 @@ fn relax_entry(records: &Records, area: &mut [u32], x: FindPathCtx, h: usize) ->
     if Distances::FAR <= d {
         return false;
     }
-    let item = item_of(
-        records,
-        scope_ns(records.words, h),
-        scope_definition(records.words, h),
-    );
-    let Item::Mod(m) = item else {
+    let Item::Mod(m) = item_at(records, h) else {
         return false;
     };
     let at = Distances::AT + m.0;
@@ -234,6 +223,7 @@ fn relax(records: &Records, area: &mut [u32], x: FindPathCtx) -> bool
     let base = records.layout.scope_base();
     let count = records.layout.scopes;
     let mut changed = false;
+    // `base + size * k` as in `mark_scope`.
     for k in 0..count {
         let r = relax_entry(records, area, x, base + Size::SCOPE * k);
         changed = changed | r;

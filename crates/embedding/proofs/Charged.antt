@@ -17,7 +17,7 @@ use Rattle.hir_def.specs.Nameres.{lang_of}
 use Rattle.hir_def.specs.ImportMap.{is_hidden, is_unstable, import_info_for}
 use Rattle.hir_def.specs.declared.Item.{Item}
 use Rattle.hir_def.specs.declared.Item.TheVariants.{Mod, Def}
-use Rattle.path_choices.specs.declared.Choice.{Choice}
+use Rattle.path_choices.specs.Choices.{Choice}
 use Rattle.path_choices.specs.Choices.{via_variant, via_import, step_by, push, length_left}
 use Rattle.find_path.specs.declared.FindPathCtx.{FindPathCtx}
 use Rattle.find_path.specs.Rules.{module_in, sought_of, scope_rule, prelude_rule, first_found, module_rules}

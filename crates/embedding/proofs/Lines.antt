@@ -15,7 +15,7 @@ use Rattle.accept.specs.Valid.{Valid}
 use Rattle.accept.proofs.Accepted.{by_test}
 use Rattle.hir_def.specs.Items.{macros, macro_kind, definition_of}
 use Rattle.readings.specs.Reads.{reads_back}
-use Rattle.path_choices.specs.declared.Choice.{Choice}
+use Rattle.path_choices.specs.Choices.{Choice}
 use Rattle.find_path.specs.declared.Query.{Query}
 use Rattle.find_path.specs.declared.Report.{Report}
 use Rattle.find_path.specs.declared.Tank.{Tank}

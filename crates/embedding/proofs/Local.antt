@@ -14,7 +14,7 @@ use Rattle.hir_def.specs.Items.{module_item}
 use Rattle.tree_rules.specs.Visibility.{sees}
 use Rattle.hir_def.specs.ItemScope.{is_declared}
 use Rattle.hir_def.specs.declared.Item.{Item}
-use Rattle.path_choices.specs.declared.Choice.{Choice}
+use Rattle.path_choices.specs.Choices.{Choice}
 use Rattle.path_choices.specs.Choices.{via_local, step_by, nothing, length_left}
 use Rattle.find_path.specs.declared.FindPathCtx.{FindPathCtx}
 use Rattle.find_path.specs.Walk.{Level, visited, find_local_import_locations}

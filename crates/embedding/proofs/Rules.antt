@@ -17,7 +17,7 @@ use Rattle.tree_rules.specs.Visibility.{sees}
 use Rattle.hir_def.specs.Nameres.{entry_named, occupied, prelude_of}
 use Rattle.hir_def.specs.declared.Item.{Item}
 use Rattle.hir_def.proofs.Chains.{map_known}
-use Rattle.path_choices.specs.declared.Choice.{Choice}
+use Rattle.path_choices.specs.Choices.{Choice}
 use Rattle.path_choices.specs.Choices.{plain_path, self_path, super_path, crate_path, via_scope, via_prelude, via_extern, step_by, choice_new}
 use Rattle.find_path.specs.declared.FindPathCtx.{FindPathCtx}
 use Rattle.find_path.specs.Rules.{by_crate, prefix_path_kind, first_found, single, find_in_scope, may_be_in_scope, scope_rule, same_here, is_usable, prelude_entry}

@@ -7,11 +7,12 @@ use native.Mathlib.Omega.{arith}
 use borrow.Author.Tests.{eqb-true}
 use lib.Dec.{eqb}
 use lib.ListN.{length}
+use Rattle.std.specs.Prelude.{Option, Some, None}
 use Rattle.reports.specs.Written.{Written, written_to, report_size}
-use Rattle.windows.specs.declared.turns.Turn.{Turn}
 use Rattle.find_path.specs.declared.Question.{Question}
 use Rattle.window_rules.specs.States.{place_fault, after_place, served, after_turn}
-use Rattle.windows.specs.Windows.{Placed, idle_turn, serving_turn, turn_of, area_turned, Turned}
+use Rattle.windows.specs.declared.turns.Served.{Served as Shown}
+use Rattle.windows.specs.Windows.{Turn, Placed, told, idle_turn, serving_turn, turn_of, area_turned, Turned}
 use Rattle.exports.specs.Turns.{report_turned, Served, Unserved}
 
 -- the words were taken apart, and put together again
@@ -27,9 +28,9 @@ module _ (S₀ S T U : List ℕ) (e : S ≡ S₀) (f : U ≡ T) where
         area = k.area ∙ ap (λ x. area_turned x A) e;
       }
 
-module _ (S W A T B old : List ℕ) (t : Turn) (k : Turned S W A T B t) where
-  pub served_none : t.idle ≡ true → Served S W A old T B old 8
-  unfolding turn_of serving_turn report_turned
+module _ (S W A T B old : List ℕ) {o : Option Shown} (k : Turned S W A T B (told o)) where
+  pub served_none : o ≡ None → Served S W A old T B old 8
+  unfolding turn_of idle_turn serving_turn report_turned
   served_none h = at (eqb (served S) 8) refl
     where
       at : (b : Bool) → eqb (served S) 8 ≡ b → Served S W A old T B old 8
@@ -37,23 +38,24 @@ module _ (S W A T B old : List ℕ) (t : Turn) (k : Turned S W A T B t) where
           record { window = sym (eqb-true (served S) 8 e); state = k.state; area = k.area; report = sym (rw (report_turned, e)) }
       at false e =
           let f : turn_of S W (length A) ≡ serving_turn S W (length A) (served S) = rw (turn_of, e) in
-          absurd (false≢true (sym (ap (λ (x : Turn). x.idle) (k.turn ∙ f)) ∙ h))
+          absurd (false≢true (sym (ap (λ (x : Turn). x.idle) (k.turn ∙ f)) ∙ ap (λ x. (told x).idle) h))
 
-  pub served_one : t.idle ≡ false → (new : List ℕ) (b : Bool) → Written t.report old new b → Served S W A old T B new t.window
+  pub served_one : {r : Shown} → o ≡ Some r → (new : List ℕ) (b : Bool) → Written r.report old new b → Served S W A old T B new r.window.number
   unfolding turn_of idle_turn serving_turn report_turned
-  served_one h new b w = at (eqb (served S) 8) refl
+  served_one {r} h new b w = at (eqb (served S) 8) refl
     where
-      at : (c : Bool) → eqb (served S) 8 ≡ c → Served S W A old T B new t.window
+      at : (c : Bool) → eqb (served S) 8 ≡ c → Served S W A old T B new r.window.number
       at true e =
           let f : turn_of S W (length A) ≡ idle_turn = rw (turn_of, e) in
-          absurd (false≢true (sym h ∙ ap (λ (x : Turn). x.idle) (k.turn ∙ f)))
+          absurd (false≢true (sym (ap (λ x. (told x).idle) h) ∙ ap (λ (x : Turn). x.idle) (k.turn ∙ f)))
       at false e =
           let f : turn_of S W (length A) ≡ serving_turn S W (length A) (served S) = rw (turn_of, e) in
+          let g : told (Some r) ≡ serving_turn S W (length A) (served S) = ap told (sym h) ∙ k.turn ∙ f in
           record {
-            window = ap (λ (x : Turn). x.window) (k.turn ∙ f);
+            window = ap (λ (x : Turn). x.window) g;
             state = k.state;
             area = k.area;
-            report = w.words ∙ ap (λ (x : Turn). written_to x.report old) (k.turn ∙ f) ∙ sym (rw (report_turned, e));
+            report = w.words ∙ ap (λ (x : Turn). written_to x.report old) g ∙ sym (rw (report_turned, e));
           }
 
 -- a turn by the words for its report: too few, or enough

@@ -13,6 +13,8 @@ use Rattle.snapshot.specs.Records.{name_at}
 use Rattle.snapshot.specs.Layouts.{name_head, snap_of}
 use Rattle.snapshot.specs.declared.layout.Layout.{Layout}
 use Rattle.snapshot.proofs.Laws.{get_d_rows}
+use Rattle.printing.specs.Output.{Put}
+use Rattle.printing.proofs.Laws.{put_whole}
 use Rattle.path_choices.specs.Choices.{name_data, name_len}
 use Rattle.keywords.specs.Keywords.{is_raw}
 use Rattle.find_path.specs.Line.{unpacked}
@@ -37,37 +39,6 @@ held_within ws b n q =
     let e = length-take b (unpacked ws) in
     let u = length_unpacked ws in
     omega arith
-
--- copying, a byte at a time
-
-pub copy_next : (T O : List ℕ) (i v : ℕ) → i < length T → i < length O → v ≡ get_or T i 0
-    → set (take i T ++ drop i O) i v ≡ take (suc i) T ++ drop (suc i) O
-copy_next [] O i v h g e = absurd (omega arith)
-copy_next (x ∷ T) [] i v h g e = absurd (omega arith)
-copy_next (x ∷ T) (y ∷ O) zero v h g e = ap (λ z. z ∷ O) e
-copy_next (x ∷ T) (y ∷ O) (suc i) v h g e = ap (λ z. x ∷ z) (copy_next T O i v (omega arith) (omega arith) e)
-
-pub length_copied : (T O : List ℕ) (i : ℕ) → i ≤ length T → i ≤ length O → length (take i T ++ drop i O) ≡ length O
-length_copied T O i h g =
-    let a = length-append (take i T) (drop i O) in
-    let b = length-take i T in
-    let c = length-drop i O in
-    omega arith
-
--- the first i bytes of the text of W stand in the bytes N, which were O; n of them are copied
-module _ (W O N : List ℕ) (n i : ℕ) (room : n ≤ length O) (enough : n ≤ 3 * length W) (e : N ≡ take i (unpacked W) ++ drop i O) where
-  pub copy_long : i ≤ n → length N ≡ length O
-  copy_long h = let u = length_unpacked W in ap length e ∙ length_copied (unpacked W) O i (omega arith) (omega arith)
-
-  pub copy_again : i < n → (v : ℕ) → v ≡ get_or (unpacked W) i 0 → set N i v ≡ take (i + 1) (unpacked W) ++ drop (i + 1) O
-  copy_again h v q =
-      let u = length_unpacked W in
-      ap (λ x. set x i v) e
-      ∙ copy_next (unpacked W) O i v (omega arith) (omega arith) q
-      ∙ ap (λ x. take x (unpacked W) ++ drop x O) (sym (add-one i))
-
-  pub copy_end : i ≤ n → n ≤ i → N ≡ take n (unpacked W) ++ drop n O
-  copy_end h g = let q : i ≡ n = omega arith in e ∙ ap (λ x. take x (unpacked W) ++ drop x O) q
 
 take_held : (T : List ℕ) (b n : ℕ) → n ≡ length (take b T) → take n T ≡ take b T
 take_held T zero n e = rw e
@@ -100,11 +71,12 @@ module _ (W T O X : List ℕ) (k n b head : ℕ) (h : k < length T) (place : hea
   pub copied_not : length O < n → Copied (name_text W T k) O O n
   copied_not g = record { long = q ∙ ap length whole; put = λ p. absurd (omega arith); kept = λ p. refl }
 
-  pub copied_whole : n ≤ length O → (N : List ℕ) → N ≡ take n (unpacked X) ++ drop n O → Copied (name_text W T k) O N n
-  copied_whole g N p =
+  pub copied_whole : n ≤ length O → {N : List ℕ} {r : ℕ} → Put O 0 (take n (unpacked X)) N r → r ≡ 0 + n → Copied (name_text W T k) O N r
+  copied_whole g {N} {r} p f =
+      let e : n ≡ length (name_text W T k) = q ∙ ap length whole in
       record {
-        long = q ∙ ap length whole;
-        put = λ m. p ∙ ap (λ x. x ++ drop n O) (take_held (unpacked X) b n q ∙ whole);
+        long = omega (arith, e, f);
+        put = λ m. put_whole p ∙ ap (λ x. x ++ drop r O) (take_held (unpacked X) b n q ∙ whole);
         kept = λ m. absurd (omega arith);
       }
 

@@ -1,19 +1,19 @@
 //! A state of the windows by value, lent for one operation.
 ghost use Rattle.window_state.specs.Words.{words_of};
-ghost use Rattle.windows.specs.Windows.{Turned};
+ghost use Rattle.windows.specs.Windows.{Turned, told};
 
 use window_state::rows::Windows;
 use windows::turns::Turning;
 use windows::windows::turn;
 
-/// The state after a turn, and the turn.
+/// The state after a turn, and what it served.
 pub fn turn_in(windows: Windows, words: &[u32], area: &mut [u32]) -> Turning
-    ensures { Turned (words_of windows) words.now area.old (words_of result.windows) area.new result.turn }
+    ensures { Turned (words_of windows) words.now area.old (words_of result.windows) area.new (told result.served) }
 {
     let mut lent = windows;
-    let turn = turn(&mut lent, words, area);
+    let served = turn(&mut lent, words, area);
     Turning {
         windows: lent,
-        turn,
+        served,
     }
 }

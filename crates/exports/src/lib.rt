@@ -30,7 +30,7 @@ mod text;
 mod viewer;
 
 use crate::lent::turn_in;
-use crate::text::{copy_text, held};
+use crate::text::held;
 use crate::viewer::viewer_of;
 use accept::check::check;
 use answer::answer::find_path;
@@ -45,10 +45,12 @@ use edits::edits::{add_entry, remove_entry};
 use imports::list::import_list;
 use join::join::join;
 use keywords::is_raw;
+use line::text::put_text;
 use new_numbers::numbers::new_numbers;
 use new_numbers::read::{new_crate, new_definition, new_map, new_module, new_name};
 use questions::question::question_of;
 use reach_answer::find_reach;
+use reach_parts::tell::tell_reach;
 use reports::report::ReportWords;
 use scope_edits::places::EntryKey;
 use snapshot::ids::{Crate, Name};
@@ -139,8 +141,7 @@ pub extern "C" fn kelumavor_name(
     if out.len() < n {
         return n;
     }
-    copy_text(out, text, n);
-    n
+    put_text(out, 0, text, n)
 }
 
 /// Whether an edition writes a name with `r#` in front of its text: the edition of the viewing module's crate. The tables are those of
@@ -275,17 +276,12 @@ pub extern "C" fn kelumavor_turn(
         return 9;
     }
     let turned = turn_in(windows_of(*state), words, area);
-    let windows = turned.windows;
-    let after = words_of(windows);
-    *state = after;
-    let t = turned.turn;
-    let idle = t.idle;
-    if idle {
+    *state = words_of(turned.windows);
+    let Some(served) = turned.served else {
         return 8;
-    }
-    let answer = t.report;
-    write_report(answer, report);
-    t.window
+    };
+    write_report(served.report, report);
+    served.window.number
 }
 
 /// Adds an entry of a scope to the snapshot in the first words, as many as `count` says, which becomes the new count: module,
@@ -444,9 +440,7 @@ pub extern "C" fn kelumavor_reach(
     ensures { ReachesIn words.now area.old (viewer_of viewer.now) area.new counts.new result }
 {
     let reach = find_reach(words, area, viewer_of(viewer));
-    let told = reach.counts;
-    *counts = told;
-    reach.number
+    tell_reach(reach, counts)
 }
 
 /// The version of what goes in and out: 65,536 times that of the format, plus the words of a report.

@@ -7,9 +7,10 @@ use Rattle.hir_def.specs.Nameres.{dependencies_of, lang_of, sysroot_first}
 use Rattle.hir_def.specs.ImportMap.{import_info_for, is_hidden, is_unstable}
 use Rattle.hir_def.specs.declared.Item.{Item}
 use Rattle.hir_def.specs.declared.Item.TheVariants.{Mod, Def}
-use Rattle.path_choices.specs.declared.Choice.{Choice}
+use Rattle.path_choices.specs.Choices.{Choice}
+use Rattle.path_choices.specs.Given.{given}
 use Rattle.find_path.specs.declared.Tank.{Tank}
-use Rattle.find_path.specs.declared.Found.{Found}
+use Rattle.find_path.specs.declared.Found.{Found as CodeFound}
 use Rattle.find_path.specs.declared.FindPathCtx.{FindPathCtx}
 use Rattle.path_choices.specs.Choices.{via_variant, via_import, step_by, nothing, push, unstably, length_left}
 use Rattle.find_path.specs.Rules.{sought_of, first_found, scope_rule, prelude_rule, module_rules}
@@ -21,9 +22,22 @@ pub record Out (M : Type 0) : Type 0 where
   pub choice : Choice
   pub meter : M
 
--- what the code answers for it
+-- a choice, and the tank that the search leaves
+pub record Found : Type 0 where
+  pub choice : Choice
+  pub meter : Tank
+
+-- the same, as a record of the definitions
 abbrev pub found_of : Out Tank → Found
 found_of o = record { choice = o.choice; meter = o.meter }
+
+-- what the code answers, as the rules take it
+abbrev pub out_of : CodeFound → Out Tank
+out_of f = record { choice = given f.choice; meter = f.meter }
+
+-- what the code answers, as that record
+abbrev pub given_found : CodeFound → Found
+given_found f = found_of (out_of f)
 
 -- A module search: length left, module, meter.
 abbrev pub Search : Type 0 → Type 0

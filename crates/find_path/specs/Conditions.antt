@@ -10,12 +10,14 @@ use Rattle.accept.specs.Valid.{ScopeFits}
 use Rattle.hir_def.specs.Items.{ns_of}
 use Rattle.hir_def.specs.Entries.{Known}
 use Rattle.hir_def.specs.declared.Item.{Item}
-use Rattle.path_choices.specs.declared.Choice.{Choice}
+use Rattle.path_choices.specs.declared.Choice.{Choice as Path}
+use Rattle.path_choices.specs.Choices.{Choice}
+use Rattle.path_choices.specs.Given.{given}
 use Rattle.find_path.specs.declared.Tank.{Tank}
 use Rattle.find_path.specs.declared.Found.{Found}
 use Rattle.find_path.specs.declared.FindPathCtx.{FindPathCtx}
 use Rattle.find_path.specs.Meters.{Charged, go, stop}
-use Rattle.find_path.specs.Charged.{Out, found_of}
+use Rattle.find_path.specs.Charged.{Out, found_of, given_found}
 
 -- accepted words with their tables, a viewing module that is there, the whole work area, and a limit in range
 -- (a clause and no type: the area is written between, and a value with this fact would have to be made anew after each write)
@@ -42,11 +44,11 @@ charged_by (Ok t) = go t
 charged_by (Err t) = stop t
 
 -- A local search answers the choice, and the tables stay.
-pub record Chosen (A₀ : List ℕ) (c : Choice) (A : List ℕ) (r : Choice) : Type 0 where
-  pub same : r ≡ c
+pub record Chosen (A₀ : List ℕ) (c : Choice) (A : List ℕ) (r : Option Path) : Type 0 where
+  pub same : given r ≡ c
   pub tables : take table_words A ≡ take table_words A₀
 
 -- A search that charges answers the choice and the tank, and the tables stay.
 pub record Searched (A₀ : List ℕ) (o : Out Tank) (A : List ℕ) (r : Found) : Type 0 where
-  pub same : r ≡ found_of o
+  pub same : given_found r ≡ found_of o
   pub tables : take table_words A ≡ take table_words A₀

@@ -6,7 +6,7 @@ use Rattle.tree_rules.specs.Visibility.{sees}
 use Rattle.hir_def.specs.ItemScope.{is_declared, name_of, preferred}
 use Rattle.hir_def.specs.Items.{module_item}
 use Rattle.hir_def.specs.declared.Item.{Item}
-use Rattle.path_choices.specs.declared.Choice.{Choice}
+use Rattle.path_choices.specs.Choices.{Choice}
 use Rattle.find_path.specs.declared.FindPathCtx.{FindPathCtx}
 use Rattle.path_choices.specs.Choices.{via_local, step_by, nothing, try_select, length_left}
 use Rattle.find_path.specs.Walk.{Level, visited, find_local_import_locations}

@@ -8,7 +8,7 @@ use Rattle.hir_def.specs.ItemScope.{name_of, preferred}
 use Rattle.hir_def.specs.Nameres.{scope_entry, entry_named, occupied, prelude_of, extern_of}
 use Rattle.hir_def.specs.declared.Item.{Item}
 use Rattle.hir_def.specs.declared.Item.TheVariants.{Mod, Def}
-use Rattle.path_choices.specs.declared.Choice.{Choice}
+use Rattle.path_choices.specs.Choices.{Choice}
 use Rattle.find_path.specs.declared.FindPathCtx.{FindPathCtx}
 use Rattle.find_path.specs.declared.Query.{Query}
 use Rattle.path_choices.specs.Choices.{plain_path, self_path, super_path, crate_path, absolute_path, via_scope, via_prelude, via_extern, step_by, nothing}

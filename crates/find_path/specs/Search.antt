@@ -4,7 +4,7 @@ use Rattle.std.specs.Prelude.{ℕ, zero, suc, Bool, true, false, ◌&&◌, [], �
 use Rattle.snapshot.specs.Records.{Snapshot, Definition}
 use Rattle.hir_def.specs.Items.{types, builtin_kind, definition_of, item_of, home_of}
 use Rattle.hir_def.specs.declared.Item.{Item}
-use Rattle.path_choices.specs.declared.Choice.{Choice}
+use Rattle.path_choices.specs.Choices.{Choice}
 use Rattle.find_path.specs.declared.FindPathCtx.{FindPathCtx}
 use Rattle.find_path.specs.declared.Query.{Query}
 use Rattle.path_choices.specs.Choices.{plain_path, via_builtin, step_by, nothing, choice_new}

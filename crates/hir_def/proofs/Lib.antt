@@ -9,4 +9,5 @@ pub mod Ancestors
 pub mod Fresh
 pub mod Plain
 pub mod Searches
+pub mod ItemTests
 pub mod KindTests

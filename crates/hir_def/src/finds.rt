@@ -11,6 +11,7 @@ use crate::{Place, Span};
 use snapshot::ids::ModuleId;
 
 /// The next record whose head passes the test, from the number k on.
+#[inline]
 pub fn next_where<F: Fn(usize) -> bool>(span: Span, k: usize, test: F) -> Option<Place>
     requires takes { (i : ℕ) → i < span.count → F.pre test (span.base + span.size * i) }
     ensures { NextBy (F.post test) span.size span.base span.count k result }
@@ -25,6 +26,7 @@ pub fn next_where<F: Fn(usize) -> bool>(span: Span, k: usize, test: F) -> Option
 }
 
 /// The first record whose head passes the test.
+#[inline]
 pub fn first_where<F: Fn(usize) -> bool>(span: Span, test: F) -> Option<usize>
     requires takes { (i : ℕ) → i < span.count → F.pre test (span.base + span.size * i) }
     ensures { FirstBy (F.post test) span.size span.base span.count result }

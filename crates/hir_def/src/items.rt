@@ -1,10 +1,10 @@
 //! Definitions, crates and items of a snapshot, after lib.rs.
 ghost use Rattle.std.specs.Prelude.{◌≡◌, List, ℕ, eqb};
-ghost use Rattle.snapshot.specs.Records.{crate_at, definition_at};
+ghost use Rattle.snapshot.specs.Records.{crate_at, definition_at, scope_at};
 ghost use Rattle.snapshot.specs.DefinitionKinds.{definition_kind_of};
 ghost use Rattle.snapshot.specs.Ids.{plus_one};
 ghost use Rattle.snapshot.specs.Laid.{snap_by};
-ghost use Rattle.hir_def.specs.Items.{definition_of, crate_data, is_lang, item_of, same_item, ns_of, home_by, home_of};
+ghost use Rattle.hir_def.specs.Items.{definition_of, crate_data, is_lang, item_of, ns_of, home_by, home_of};
 ghost use Rattle.hir_def.specs.Entries.{ReadsAs};
 
 use crate::Item;
@@ -12,11 +12,12 @@ use snapshot::ids::{Crate, CrateOrigin, DefinitionId, DefinitionKind, ModuleId, 
 use snapshot::kind::Size;
 use snapshot::record::{
     crate_edition, crate_no_std, crate_origin, definition_first, definition_kind,
-    definition_second, known_definition_kind,
+    definition_second, known_definition_kind, scope_definition, scope_ns,
 };
 use snapshot::records::Records;
 
 /// The place of a definition's head; past the words, which read as 0, where there is no such definition.
+#[inline]
 pub fn definition_head(records: &Records, d: DefinitionId) -> usize
     ensures { (A : List ℕ) → ReadsAs records.now.words.now result (definition_of (snap_by records.now A) d.0) }
 {
@@ -38,6 +39,7 @@ pub fn crate_head(records: &Records, c: Crate) -> usize
 }
 
 /// The number of a definition's kind, 0 where there is no such definition.
+#[inline]
 pub fn kind_of(records: &Records, d: DefinitionId) -> usize
     ensures { (A : List ℕ) → result ≡ (definition_of (snap_by records.now A) d.0).kind }
 {
@@ -95,6 +97,7 @@ pub fn is_lang(records: &Records, c: Crate) -> bool
 }
 
 /// The item that a definition is in a namespace.
+#[inline]
 pub fn item_of(records: &Records, ns: usize, d: DefinitionId) -> Item
     ensures { (A : List ℕ) → result ≡ item_of (snap_by records.now A) ns d.0 }
 {
@@ -107,21 +110,14 @@ pub fn item_of(records: &Records, ns: usize, d: DefinitionId) -> Item
     Item::Def(Namespace(ns), d)
 }
 
-/// Whether two items are the same: one module, or one definition in one namespace.
-// `same_item` is the definition that rules and searches are stated over; `==` of a derive would need a law to it at each call.
-pub fn same_item(a: Item, b: Item) -> bool
-    ensures { result ≡ same_item a b }
+/// The item of the scope entry with its head at a place.
+#[inline]
+pub fn item_at(records: &Records, h: usize) -> Item
+    ensures { (A : List ℕ) → result ≡ item_of (snap_by records.now A) (scope_at records.now.words.now h).ns
+        (scope_at records.now.words.now h).definition }
 {
-    match a {
-        Item::Mod(m) => match b {
-            Item::Mod(n) => m == n,
-            Item::Def(_, _) => false,
-        },
-        Item::Def(ns, d) => match b {
-            Item::Mod(_) => false,
-            Item::Def(other, e) => (ns == other) & (d == e),
-        },
-    }
+    let ns = scope_ns(records.words, h);
+    item_of(records, ns, scope_definition(records.words, h))
 }
 
 /// The number of an item's namespace; a module is in that of types.

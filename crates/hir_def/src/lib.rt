@@ -9,11 +9,12 @@ pub mod modules;
 pub mod spans;
 pub mod visibility;
 
+use accept::opened::Snapshot;
 use snapshot::ids::{DefinitionId, ModuleId, Namespace};
 
 // An item: a module in the types namespace, or a namespace and another definition.
 // Two kinds of things, neither of them an error: a `Result` would call one so.
-#[derive(Clone, Copy)]
+#[derive(Clone, Copy, PartialEq, Eq)]
 pub enum Item {
     Mod(ModuleId),
     Def(Namespace, DefinitionId),
@@ -40,4 +41,13 @@ pub struct Span {
     pub size: usize,
     pub count: usize,
     ghost fits: { base + size * count < 2 ^ 32 },
+}
+
+/// The viewing module in its snapshot.
+// For readers whose viewer stays the same. A function that writes to the area makes one where it calls them: while a view is there, its area is only read.
+#[derive(Clone, Copy)]
+pub struct View<'w, 'a> {
+    pub db: Snapshot<'w, 'a>,
+    pub from: ModuleId,
+    ghost inside: { from.0 < db.records.layout.modules },
 }

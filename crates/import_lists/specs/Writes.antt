@@ -13,11 +13,15 @@ use Rattle.import_order.specs.Rooms.{member_heads_room, member_links_room}
 use Rattle.import_rules.specs.Collect.{is_member_of, member_import, words_of}
 use Rattle.import_order.specs.Lists.{Ready}
 use Rattle.import_lists.specs.Threads.{member_of}
+use Rattle.import_lists.specs.declared.write.NewImport.{NewImport}
 
 -- a new import has no place yet
 abbrev pub new_import : ℕ → ℕ → ℕ → ℕ → ℕ → ℕ → Import
 new_import c ns d name m bits =
     record { owner = c; ns = ns; definition = d; name = name; container = m; bits = bits; place = 0 }
+
+abbrev pub import_of : NewImport → Import
+import_of i = new_import i.krate.0 i.ns i.definition.0 i.name.0 i.module.0 i.bits
 
 -- an import's numbers keep within the limits of a snapshot
 pub record Bounded (x : Import) : Type 0 where

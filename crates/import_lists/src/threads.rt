@@ -15,7 +15,8 @@ use snapshot::records::Records;
 use snapshot::words::word;
 
 // Leaves the heads of the public entries of all modules in the work area, in record order, and answers how many there are.
-// By the number of the visibility, 0 for public: a `Visibility` would be made of two words of each entry to be asked for its variant.
+// By the number of the visibility, 0 for public, as the definition tests it: a `match` on a `Visibility`, with an arm and a rest, would be no plainer.
+// `base + Size::SCOPE * k` is the place of record k: a method for it would be this sum under a name. So with `Size::MEMBER` below.
 fn gather(records: &Records, area: &mut [u32]) -> usize
     requires { Ready records.now.words.now area.old records.now.layout }
     ensures { Gathered records.now.words.now area.old records.now.layout area.new result }
@@ -34,6 +35,7 @@ fn gather(records: &Records, area: &mut [u32]) -> usize
 }
 
 // Threads the entries by module, the last first.
+// Link j is that of entry n - 1 - j: a `rev` would give one of both, and the other would be counted beside it. So in `thread_members`.
 // The heads are read from the area that the threads are written to, and `Threads` speaks of that area whole: so n counts them, and no slice is lent.
 fn thread_entries(words: &[u32], area: &mut Area, n: usize)
     requires area_len { entries_room + n ≤ heads_room }

@@ -11,7 +11,7 @@ ghost use Rattle.accept.specs.Opened.{snap_in};
 ghost use Rattle.import_rules.specs.Collect.{member_ns, member_import, entries_of, imports_of, imports_in, imports_over};
 ghost use Rattle.import_lists.specs.Threads.{Threaded};
 ghost use Rattle.import_lists.specs.Walks.{order_at};
-ghost use Rattle.import_lists.specs.Writes.{new_import, Bounded, Space, Wrote, kept_imports, members_of, Listed};
+ghost use Rattle.import_lists.specs.Writes.{import_of, Bounded, Space, Wrote, kept_imports, members_of, Listed};
 
 use crate::walk::order_base;
 use accept::opened::Snapshot;
@@ -24,29 +24,29 @@ use snapshot::record::{
 };
 use snapshot::words::word;
 
+/// The fields of an import record.
+#[derive(Clone, Copy)]
+pub struct NewImport {
+    pub krate: Crate,
+    pub ns: usize,
+    pub definition: DefinitionId,
+    pub name: Name,
+    pub module: ModuleId,
+    pub bits: usize,
+}
+
 // Writes an import's words, if it is to write, and answers the place after them.
-fn put_import(
-    target: &mut [u32],
-    at: usize,
-    write: bool,
-    c: Crate,
-    ns: usize,
-    d: DefinitionId,
-    name: Name,
-    m: ModuleId,
-    bits: usize,
-) -> usize
-    requires { Bounded (new_import c.0 ns d.0 name.0 m.0 bits)
-        × Space write at (new_import c.0 ns d.0 name.0 m.0 bits ∷ []) target.old }
-    ensures { Wrote write at (new_import c.0 ns d.0 name.0 m.0 bits ∷ []) target.old target.new result }
+fn put_import(target: &mut [u32], at: usize, write: bool, import: NewImport) -> usize
+    requires { Bounded (import_of import) × Space write at (import_of import ∷ []) target.old }
+    ensures { Wrote write at (import_of import ∷ []) target.old target.new result }
 {
     if write {
-        target[at] = (0xA0000000 + c.0) as u32;
-        target[at + 1] = ns as u32;
-        target[at + 2] = d.0 as u32;
-        target[at + 3] = name.0 as u32;
-        target[at + 4] = m.0 as u32;
-        target[at + 5] = bits as u32;
+        target[at] = (0xA0000000 + import.krate.0) as u32;
+        target[at + 1] = import.ns as u32;
+        target[at + 2] = import.definition.0 as u32;
+        target[at + 3] = import.name.0 as u32;
+        target[at + 4] = import.module.0 as u32;
+        target[at + 5] = import.bits as u32;
     }
     at + Size::IMPORT
 }
@@ -80,12 +80,15 @@ fn put_member(
     if kind == Some(MemberKind::TypeAlias) {
         return at;
     }
-    let ns = member_ns(scope_ns(words, entry), kind);
-    let d = member_definition(words, member);
-    let name = member_name(words, member);
-    let m = scope_owner(words, entry);
-    let bits = member_bits(words, member);
-    put_import(target, at, write, c, ns, d, name, m, bits)
+    let import = NewImport {
+        krate: c,
+        ns: member_ns(scope_ns(words, entry), kind),
+        definition: member_definition(words, member),
+        name: member_name(words, member),
+        module: scope_owner(words, entry),
+        bits: member_bits(words, member),
+    };
+    put_import(target, at, write, import)
 }
 
 // Puts the members of an entry's definition, in record order.
@@ -130,12 +133,15 @@ fn put_entry(
         target.old target.new result }
 {
     let t = put_members(db, target, at, write, c, entry);
-    let ns = scope_ns(db.records.words, entry);
-    let d = scope_definition(db.records.words, entry);
-    let name = scope_name(db.records.words, entry);
-    let m = scope_owner(db.records.words, entry);
-    let bits = scope_bits(db.records.words, entry);
-    put_import(target, t, write, c, ns, d, name, m, bits)
+    let import = NewImport {
+        krate: c,
+        ns: scope_ns(db.records.words, entry),
+        definition: scope_definition(db.records.words, entry),
+        name: scope_name(db.records.words, entry),
+        module: scope_owner(db.records.words, entry),
+        bits: scope_bits(db.records.words, entry),
+    };
+    put_import(target, t, write, import)
 }
 
 // Puts the public entries of a module.

@@ -10,7 +10,7 @@ ghost use Rattle.hir_def.specs.ImportMap.{is_import, is_hidden, is_unstable};
 ghost use Rattle.hir_def.specs.Entries.{NextOf};
 
 use hir_def::finds::next_where;
-use hir_def::items::{item_of, same_item};
+use hir_def::items::item_of;
 use hir_def::spans::imports;
 use hir_def::{Item, Place};
 use snapshot::ids::Crate;
@@ -27,7 +27,7 @@ fn is_import(records: &Records, h: usize, c: Crate, item: Item) -> bool
     }
     let ns = import_ns(records.words, h);
     let d = import_definition(records.words, h);
-    same_item(item_of(records, ns, d), item)
+    item_of(records, ns, d) == item
 }
 
 /// The next of the crate's imports of the item, from the import number k on.

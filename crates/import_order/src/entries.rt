@@ -16,7 +16,7 @@ pub fn entry_before(db: &Snapshot, a: usize, b: usize) -> bool
     let x = scope_name(db.records.words, a);
     let y = scope_name(db.records.words, b);
     let namespace = scope_ns(db.records.words, a) < scope_ns(db.records.words, b);
-    if x.0 == y.0 {
+    if x == y {
         return namespace;
     }
     if text_before(db, x, y) {

@@ -79,7 +79,7 @@ fn list_within(
 /// Writes the import records of a crate to the target, in the order in which the Rust adds them, and answers how many words these are;
 /// what stands past them stays. Or answers why the call is refused, with the target unchanged: 20 a small work area,
 /// 30 to 36 and 43 the snapshot, 23 an unknown crate, 45 a target that is too short. The work area is left as `find_path` leaves it.
-// The test of the work area begins `join` and `new_numbers` too: past it each cuts the area for a function with other slices.
+// The test of the work area begins `join`, `new_numbers` and `find_reach` too: past it each cuts the area for a function with other slices.
 pub fn import_list(
     words: &[u32],
     area: &mut [u32],

@@ -27,6 +27,8 @@ fn defined(words: &[u32], l: Layout, at: usize) -> bool
 }
 
 /// An extern.
+// As `scopes::step`, of another record. What the two share is `repeated_with`, `judge` and `link`: each argument of these differs, so one step
+// for both would take them all.
 pub fn step(words: &[u32], area: &mut [u32], l: Layout, at: usize) -> Result<Layout, Refusal>
     requires { Ready words.now area.old l at (at + extern_size) }
     ensures { (ms : List Map) → Stands words.now area.old 11 at l ms

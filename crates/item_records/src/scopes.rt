@@ -48,6 +48,7 @@ fn defined(words: &[u32], l: Layout, at: usize) -> bool
 }
 
 /// An entry.
+// As `externs::step`, of another record: why there are two is said there.
 pub fn step(words: &[u32], area: &mut [u32], l: Layout, at: usize) -> Result<Layout, Refusal>
     requires { Ready words.now area.old l at (at + scope_size) }
     ensures { (ms : List Map) → Stands words.now area.old 9 at l ms

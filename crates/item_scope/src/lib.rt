@@ -15,7 +15,7 @@ ghost use Rattle.hir_def.specs.Nameres.{entry_in};
 ghost use Rattle.hir_def.specs.Entries.{entry_of, UpTo, NextOf};
 
 use hir_def::finds::{first_where, next_where};
-use hir_def::items::{item_of, known_kind_of, same_item};
+use hir_def::items::{item_at, known_kind_of};
 use hir_def::spans::scopes;
 use hir_def::{Item, Lookup, Place, Span};
 use snapshot::ids::{DefinitionKind, ModuleId, Name, Namespace};
@@ -23,6 +23,7 @@ use snapshot::record::{scope_declared, scope_definition, scope_name, scope_ns, s
 use snapshot::records::Records;
 
 /// Whether the entry with its head at a place was declared there: 1, or 3 where it is deprecated too.
+#[inline]
 pub fn is_declared(words: &[u32], h: usize) -> bool
     ensures { result ≡ is_declared (scope_at words.now h) }
 {
@@ -38,18 +39,18 @@ pub fn is_deprecated(words: &[u32], h: usize) -> bool
 
 /// Whether the entry with its head at a place is one of the module's for the item.
 // Over the fields of a scope entry; `import_map::is_import` reads an import's, so one of both would take four readers as parameters.
+#[inline]
 pub fn is_for(records: &Records, h: usize, m: ModuleId, item: Item) -> bool
     ensures { (A : List ℕ) → result ≡ is_for (snap_by records.now A) m.0 item (scope_at records.now.words.now h) }
 {
     if scope_owner(records.words, h) != m {
         return false;
     }
-    let ns = scope_ns(records.words, h);
-    let d = scope_definition(records.words, h);
-    same_item(item_of(records, ns, d), item)
+    item_at(records, h) == item
 }
 
 // The same, and the entry was declared there where only such entries count.
+#[inline]
 fn is_entry(records: &Records, h: usize, m: ModuleId, item: Item, declared: bool) -> bool
     ensures { (A : List ℕ)
         → result ≡ (is_for (snap_by records.now A) m.0 item (scope_at records.now.words.now h) && counts declared
@@ -151,8 +152,9 @@ pub fn entry_in(records: &Records, m: ModuleId, item: Item, declared: bool, fres
     names_of(records, m, item, declared)
 }
 
-// Whether the entry with its head at a place is the module's with that namespace and name.
-fn is_named(words: &[u32], h: usize, m: ModuleId, ns: usize, name: Name) -> bool
+/// Whether the entry with its head at a place is the module's with that namespace and name.
+#[inline]
+pub fn is_named(words: &[u32], h: usize, m: ModuleId, ns: usize, name: Name) -> bool
     ensures { result ≡ is_named m.0 ns name.0 (scope_at words.now h) }
 {
     (scope_owner(words, h) == m) & ((scope_ns(words, h) == ns) & (scope_name(words, h) == name))

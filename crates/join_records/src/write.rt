@@ -51,14 +51,11 @@ fn put_record(second: &Moving, at: usize, target: &mut [u32], to: usize, write: 
 fn is_kept(second: &Moving, at: usize, n: usize) -> bool
     ensures { result ≡ kept_at second.now.area.now second.now.first second.now.words.now at n }
 {
-    let k = kind(second.words, at);
-    if k == Kind::Name as usize {
-        return second.first.names <= second.name_to(n);
+    match Kind::of(kind(second.words, at)) {
+        Some(Kind::Name) => second.first.names <= second.name_to(n),
+        Some(Kind::Definition) => second.first.definitions <= second.definition_to(n),
+        _ => true,
     }
-    if k == Kind::Definition as usize {
-        return second.first.definitions <= second.definition_to(n);
-    }
-    true
 }
 
 // Puts it, if it is.

@@ -12,6 +12,7 @@ use printing::output::put;
 use snapshot::ids::{Name, PathKind};
 
 // Puts what stands before the names, and no joint.
+// By number, as `prefix_parts`: a `match` on `PathKind::of(kind)` was tried, and the proof of its `_` didn't close. So in `put_path`.
 fn put_prefix(out: &mut [u8], at: usize, kind: usize) -> usize
     requires { at + 5 ≤ length out.old }
     ensures put { Put out.old at (joined (bytes_of "::") (prefix_parts kind)) out.new result }

@@ -35,9 +35,9 @@ pub fn text_byte(text: &[u32], i: usize) -> u8
     narrow(w / 65536 % 256)
 }
 
-// Puts the first bytes of such a text.
+/// Puts the first bytes of such a text.
 // n bytes, of which a word has three: a slice of words cannot end inside a word.
-fn put_text(out: &mut [u8], at: usize, text: &[u32], n: usize) -> usize
+pub fn put_text(out: &mut [u8], at: usize, text: &[u32], n: usize) -> usize
     requires { (at + n ≤ length out.old) × (n ≤ 3 * length text.now) }
     ensures put { Put out.old at (take n (unpacked text.now)) out.new result }
     ensures value { result ≡ at + n }

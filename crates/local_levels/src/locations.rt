@@ -27,6 +27,9 @@ use snapshot::record::{child_child, child_owner, scope_definition, scope_seen};
 use snapshot::records::Records;
 use snapshot::words::word;
 
+// `from`, `s` and `sought` stay the same through a walk. They are parameters of their own, since the contracts and the definitions take them
+// one by one: a struct would be opened again in each.
+
 // The children of the viewing module, in record order.
 fn push_children(
     records: &Records,
@@ -42,10 +45,10 @@ fn push_children(
 {
     let base = records.layout.child_base();
     let mut run = n;
+    // `base + size * k` as in a `Span`: a method for it would be this sum under a name.
     for k in 0..records.layout.children {
         let h = base + Size::CHILD * k;
-        let owner = child_owner(records.words, h);
-        if owner.0 == from.0 {
+        if child_owner(records.words, h) == from {
             let m = child_child(records.words, h);
             run = push_module(area, s, run, sought, m);
         }
@@ -89,9 +92,7 @@ fn leads(db: &Snapshot, from: ModuleId, h: usize, to: ModuleId) -> bool
         (crate_of (snap_in db.now) from.0) && sees (snap_in db.now)
         from.0 (scope_at db.now.records.words.now h)) }
 {
-    let there = krate(db, to);
-    let here = krate(db, from);
-    if there.0 != here.0 {
+    if krate(db, to) != krate(db, from) {
         return false;
     }
     is_visible_from(db, scope_seen(db.records.words, h), from)

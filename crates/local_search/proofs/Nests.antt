@@ -16,9 +16,10 @@ use Rattle.accept.specs.Post.{Reads}
 use Rattle.accept.specs.Valid.{Each}
 use Rattle.accept.proofs.Bools.{each_at}
 use Rattle.hir_def.specs.declared.Item.{Item}
-use Rattle.path_choices.specs.declared.Choice.{Choice}
+use Rattle.path_choices.specs.declared.Choice.{Choice as Path}
+use Rattle.path_choices.specs.Given.{given}
 use Rattle.find_path.specs.declared.FindPathCtx.{FindPathCtx}
-use Rattle.path_choices.specs.Choices.{nothing}
+use Rattle.path_choices.specs.Choices.{Choice, nothing}
 use Rattle.find_path.specs.Walk.{Level, visited, find_local_import_locations}
 use Rattle.find_path.specs.Local.{importable_name, location, each_location, calculate_best_path_local}
 use Rattle.find_path.specs.Search.{search_local}
@@ -238,21 +239,24 @@ module _ (W A₀ : List ℕ) (l : Layout) (x : FindPathCtx) (left : ℕ) (item :
     start_reads : Reads W A₁ l
     start_reads = reads_at W A₀ A₁ l s.top y.reads y.tables start_below
 
-    pub nesting_start : {b : Choice} → b ≡ nothing → Nesting W l S₁ x left item A₁ s n A₁ b 0
-    nesting_start {b} e =
+    pub nesting_start : Nesting W l S₁ x left item A₁ s n A₁ nothing 0
+    nesting_start =
         record {
           within = omega arith;
           few = g.few;
-          fits = rw e (nothing_fits left);
+          fits = nothing_fits left;
           chain = chain_same A₀ A₁ s.top (sym start_below) s.depth s.place y.chain;
           opened = open_start A₀ s code item A₁ n named (omega (arith, room, y.area)) g.below;
           rows =
               rows_at_lem W H A₁ l x head_reads head_rows (take_less A₁ H distances_end (s.top + 3) (omega (arith, y.numbers)) g.below)
               (λ i h. g.above i (omega (arith, room, h)));
-          whole = ap (λ (c : Choice). each_location S₁ x (search_local S₁ x) left (levels_of A₁ s.place s.depth) item [] c ws) (sym e);
+          whole = refl;
         }
 
-    module _ (A : List ℕ) (best : Choice) (k : ℕ) (v : Nesting W l S₁ x left item A₁ s n A best k) where
+    module _ (A : List ℕ) (o : Option Path) (k : ℕ) (v : Nesting W l S₁ x left item A₁ s n A (given o) k) where
+      abbrev best : Choice
+      best = given o
+
       abbrev B : List ℕ
       B = set A (s.top + 2) k
 
@@ -300,15 +304,15 @@ module _ (W A₀ : List ℕ) (l : Layout) (x : FindPathCtx) (left : ℕ) (item :
             let b : Each (λ i. i < l.modules) ws = subst (Each (λ i. i < l.modules)) (sym g.run) a in
             subst (λ i. i < l.modules) (sym taken) (each_at 0 k b (omega (arith, length_rows f n)))
 
-        pub nesting_next : (C : List ℕ) {r : Choice}
+        pub nesting_next : (C : List ℕ) {r : Option Path}
             → Answered W B l x (s.top + 3 + n) (location (snap_of W B l) x (search_local (snap_of W B l) x) left
             (levels_of B (s.top + 3) (s.depth + 1)) best m (importable_name (snap_of W B l) x item m)) C r
-            → length C ≡ length B → Nesting W l S₁ x left item A₁ s n C r (k + 1)
+            → length C ≡ length B → Nesting W l S₁ x left item A₁ s n C (given r) (k + 1)
         nesting_next C {r} a c =
             let f : ℕ → ℕ = λ i. get_or A₁ (s.top + 3 + i) 0 in
             let lv = open_levels A₁ s item n B cursor_open k cursor_at h v.chain small in
             let sn : snap_of W B l ≡ S₁ = snap_at W A₁ B l s.top start_reads y.tables cursor_open.below in
-            let er : r ≡ location S₁ x (search_local S₁ x) left (record { item = item; modules = take (k + 1) ws } ∷ levels_of A₁
+            let er : given r ≡ location S₁ x (search_local S₁ x) left (record { item = item; modules = take (k + 1) ws } ∷ levels_of A₁
             s.place s.depth) best m (importable_name S₁ x item m) =
             a.same ∙ ap₂ (λ (z : Snapshot) (u : List Level). location z x (search_local z x) left u best m (importable_name z x item m)) sn lv in
             record {
@@ -323,7 +327,7 @@ module _ (W A₀ : List ℕ) (l : Layout) (x : FindPathCtx) (left : ℕ) (item :
 
       pub nesting_done : n ≤ k
           → Answered W A₀ l x s.top (calculate_best_path_local (snap_of W A₀ l) x (search_local (snap_of W A₀ l) x) left
-          (levels_of A₀ s.place s.depth) item) A best
+          (levels_of A₀ s.place s.depth) item) A o
       unfolding calculate_best_path_local
       nesting_done h =
           let S₀ = snap_of W A₀ l in

@@ -1,7 +1,7 @@
 -- The laws of the module search and of one location.
 use Prim.Native.Nat.{ℕ, zero, suc, ◌+◌, ◌-◌, ◌≤◌, ◌<◌, ◌^◌}
 use mathlib.Core.Path.{◌≡◌, refl, sym, ◌∙◌, ap, subst}
-use mathlib.Core.List.{List, []}
+use mathlib.Core.List.{List, [], ◌∷◌}
 use mathlib.Core.Bool.{Bool, true, false, true≢false}
 use Rattle.std.specs.Prelude.{Option, None, Some, ℕ}
 use native.Mathlib.Omega.{arith}
@@ -18,11 +18,12 @@ use Rattle.hir_def.specs.Items.{ns_of, module_item}
 use Rattle.hir_def.specs.declared.Item.{Item}
 use Rattle.hir_def.specs.declared.Item.TheVariants.{Mod, Def}
 use Rattle.hir_def.specs.Entries.{entry_of}
-use Rattle.path_choices.specs.declared.Choice.{Choice}
+use Rattle.path_choices.specs.declared.Choice.{Choice as Path}
+use Rattle.path_choices.specs.Given.{chosen, given}
 use Rattle.find_path.specs.declared.FindPathCtx.{FindPathCtx}
-use Rattle.path_choices.specs.Choices.{via_local, step_by, nothing, length_left, extended}
+use Rattle.path_choices.specs.Choices.{Choice, via_local, step_by, nothing, length_left, extended}
 use Rattle.find_path.specs.Walk.{Level}
-use Rattle.find_path.specs.Rules.{module_rules}
+use Rattle.find_path.specs.Rules.{first_found, module_rules}
 use Rattle.find_path.specs.Local.{offer, offer_entry, importable_name, location, calculate_best_path_local, or_local, find_path_for_module_local}
 use Rattle.find_path.specs.Search.{search_local, best_local}
 use Rattle.find_path.specs.Conditions.{Prepared, Asked, EntryFits, Chosen}
@@ -46,7 +47,7 @@ use Rattle.walk_once.specs.Post.{Kept}
 use Rattle.walk_once.proofs.Walking.{walked_at}
 use Rattle.tight_rows.specs.Post.{Cleared, Tight}
 use Rattle.tight_rows.proofs.Keeping.{imports_known, row_asked, row_kept, rows_put, rows_none}
-use Rattle.local_search.specs.Post.{Ruling, Searchable, Answered}
+use Rattle.local_search.specs.Post.{Searchable, Answered}
 use Rattle.local_levels.proofs.Rows.{agree, take_less}
 use Rattle.local_levels.proofs.Stacks.{chain_none, snap_at, reads_at, chains_at}
 
@@ -109,9 +110,9 @@ two_up (suc (suc w)) h h' = omega arith
 
 -- the module search
 module _ (S : Snapshot) (x : FindPathCtx) (left : ℕ) (ls : List Level) (m : ℕ) where
-  pub search_none : left ≡ 0 → {r : Choice} → r ≡ nothing → r ≡ search_local S x left ls m
+  pub search_none : left ≡ 0 → nothing ≡ search_local S x left ls m
   unfolding find_path_for_module_local
-  search_none e q = q ∙ sym (local_more S x left ls m ∙ ap (λ n. find_path_for_module_local S x (search_local S x) n ls m) e)
+  search_none e = sym (local_more S x left ls m ∙ ap (λ n. find_path_for_module_local S x (search_local S x) n ls m) e)
 
   search_or : (left ≡ 0 → ⊥) → search_local S x left ls m ≡ or_local S x (search_local S x) left ls m (module_rules S x false m)
       (module_rules S x false m).found
@@ -130,14 +131,26 @@ module _ (S : Snapshot) (x : FindPathCtx) (left : ℕ) (ls : List Level) (m : �
       e
       ∙ sym (search_or h ∙ ap (or_local S x (search_local S x) left ls m (module_rules S x false m)) (sym (ap (λ (z : Choice). z.found) e) ∙ t))
 
-  pub search_on : {f : Bool} {r : Choice} → (left ≡ 0 → ⊥) → f ≡ (module_rules S x false m).found → f ≡ false
+  pub search_on : {r : Choice} → (left ≡ 0 → ⊥) → ruled S x m ≡ false
       → r ≡ calculate_best_path_local S x (search_local S x) left ls (module_item m) → r ≡ search_local S x left ls m
   unfolding or_local
-  search_on h e t q =
-      q ∙ sym (search_or h ∙ ap (or_local S x (search_local S x) left ls m (module_rules S x false m)) (sym e ∙ t))
+  search_on h t q = q ∙ sym (search_or h ∙ ap (or_local S x (search_local S x) left ls m (module_rules S x false m)) t)
 
-pub unruled : (S : Snapshot) (x : FindPathCtx) (m : ℕ) {f : Bool} → f ≡ ruled S x m → f ≡ false → ruled S x m ≡ false
-unruled S x m e t = sym e ∙ t
+pub unruled : (S : Snapshot) (x : FindPathCtx) (m : ℕ) → nothing ≡ module_rules S x false m → ruled S x m ≡ false
+unruled S x m e = ap (λ (z : Choice). z.found) (sym e)
+
+-- where none of the choices is one, the first of them is none
+abbrev one_of : Bool → Choice → Choice → Choice
+one_of b c d = elim b [ true ↦ c | false ↦ d ]
+
+none_else : (b : Bool) (c d : Choice) → c.found ≡ b → (one_of b c d).found ≡ false → (d.found ≡ false → d ≡ nothing) → one_of b c d ≡ nothing
+none_else true c d t e f = absurd (true≢false (sym t ∙ e))
+none_else false c d t e f = f e
+
+none_first : (cs : List Choice) → (first_found cs).found ≡ false → first_found cs ≡ nothing
+unfolding first_found
+none_first [] e = refl
+none_first (c ∷ cs) e = none_else c.found c (first_found cs) refl e (none_first cs)
 
 -- no rule answers for a module with a number above 1
 far_unruled : (S : Snapshot) (x : FindPathCtx) (n : ℕ) (d : ℕ → ℕ) → Bounds S x n d → (m : ℕ) → m < n → 1 < d m → ruled S x m ≡ false
@@ -145,13 +158,9 @@ unfolding near
 far_unruled S x n d b m known h = refuted (ruled S x m) (λ t. let o = b 1 m known (or_left (ruled S x m) _ t) in omega arith)
 
 module _ (S : Snapshot) (x : FindPathCtx) (n : ℕ) (d : ℕ → ℕ) (m : ℕ) where
-  pub ruling_far : Bounds S x n d → m < n → {w : ℕ} → w ≡ d m → 1 < w → {r : Choice} → r ≡ nothing → Ruling (module_rules S x false m) r
-  ruling_far b known e h q =
-      let f = ap (λ (z : Choice). z.found) q in
-      record { found = f ∙ sym (far_unruled S x n d b m known (omega arith)); same = λ t. absurd (true≢false (sym t ∙ f)) }
-
-  pub ruling_near : {r : Choice} → r ≡ module_rules S x false m → Ruling (module_rules S x false m) r
-  ruling_near e = record { found = ap (λ (z : Choice). z.found) e; same = λ _. e }
+  pub rules_far : Bounds S x n d → m < n → {w : ℕ} → w ≡ d m → 1 < w → nothing ≡ module_rules S x false m
+  unfolding module_rules
+  rules_far b known e h = sym (none_first _ (far_unruled S x n d b m known (omega arith)))
 
 -- a location whose search finds nothing changes nothing
 idle : (S : Snapshot) (x : FindPathCtx) (left : ℕ) (ls : List Level) (best : Choice) (m : ℕ) (a : Option Scope)
@@ -192,30 +201,30 @@ module _ (W A : List ℕ) (l : Layout) (x : FindPathCtx) (left : ℕ) (s : Stack
     pub location_call : Searchable W A l x j s
     location_call = searchable_less j y (omega (arith, location_shorter))
 
-    module _ (B : List ℕ) {c : Choice} (a : Answered W A l x s.top (search_local S x j ls m) B c) where
+    module _ (B : List ℕ) {c : Option Path} (a : Answered W A l x s.top (search_local S x j ls m) B c) where
       pub location_reads : Reads W B l
       location_reads = reads_at W A B l s.top y.reads y.tables a.below
 
-      fits : Fits S j c
+      fits : Fits S j (given c)
       fits = rw a.same (search_local_fits S x j ls m)
 
-      pub location_few : c.count < 16
+      pub location_few : (given c).count < 16
       location_few = omega (arith, fits.few, location_shorter, y.deep)
 
-      pub location_steps : c.steps < 17
+      pub location_steps : (given c).steps < 17
       location_steps = omega (arith, fits.once, location_few)
 
-      pub location_text : c.path_text_len < 2 ^ 32
+      pub location_text : (given c).path_text_len < 2 ^ 32
       location_text = omega (arith, fits.text (names_short W A l y.reads), location_few)
 
-      pub location_some : {h : ℕ} {b : Option ℕ} {r : Choice} → entry_of scope_at W b ≡ importable_name S x item m → b ≡ Some h
-          → r ≡ offer_entry (snap_of W B l) x best c (scope_at W h) → Answered W A l x s.top (here (importable_name S x item m)) B r
+      pub location_some : {h : ℕ} {b : Option ℕ} {r : Option Path} → entry_of scope_at W b ≡ importable_name S x item m → b ≡ Some h
+          → given r ≡ offer_entry (snap_of W B l) x best (given c) (scope_at W h) → Answered W A l x s.top (here (importable_name S x item m)) B r
       unfolding location
       location_some {h} {b} {r} p q o =
           record {
             same =
                 o
-                ∙ ap (λ (z : Snapshot). offer_entry z x best c (scope_at W h)) (snap_at W A B l s.top y.reads y.tables a.below)
+                ∙ ap (λ (z : Snapshot). offer_entry z x best (given c) (scope_at W h)) (snap_at W A B l s.top y.reads y.tables a.below)
                 ∙ ap (λ (z : Choice). offer_entry S x best z (scope_at W h)) (a.same ∙ ap (λ i. search_local S x i ls m) e)
                 ∙ sym (ap here (sym p ∙ ap (entry_of scope_at W) q));
             below = a.below;
@@ -249,14 +258,14 @@ module _ (W A : List ℕ) (l : Layout) (x : FindPathCtx) (left : ℕ) (s : Stack
   row_here : {w : ℕ} → w ≡ row_at A m → Row W l S₀ x left m w
   row_here {w} e = subst (λ z. Row W l S₀ x left m z) (sym e) (subst (λ z. Row W l S₀ x z m (row_at A m)) (sym t.number) (y.rows m known))
 
-  pub tight_none : {w : ℕ} {r : Choice} → w ≡ row_at A m → w ≡ 1 → r ≡ nothing → Answered W A l x s.top (search_local S₀ x left ls₀ m) A r
-  tight_none e q z = record { same = z ∙ sym (tight_same ∙ (row_here e).nowhere q); below = refl; rows = y.rows }
+  pub tight_none : {w : ℕ} → w ≡ row_at A m → w ≡ 1 → Answered W A l x s.top (search_local S₀ x left ls₀ m) A None
+  tight_none e q = record { same = sym (tight_same ∙ (row_here e).nowhere q); below = refl; rows = y.rows }
 
   -- it was not searched yet
-  module _ (some_left : 0 < left) (u : ruled S₀ x m ≡ false) (B : List ℕ) {r : Choice} (size : length B ≡ length A)
+  module _ (some_left : 0 < left) (u : ruled S₀ x m ≡ false) (B : List ℕ) {r : Option Path} (size : length B ≡ length A)
       (a : Answered W A l x s.top (calculate_best_path_local S₀ x (search_local S₀ x) left ls₀ (module_item m)) B r) where
-    made_same : r ≡ search_local S₀ x left ls₀ m
-    made_same = search_on S₀ x left ls₀ m (λ z. omega arith) refl u a.same
+    made_same : given r ≡ search_local S₀ x left ls₀ m
+    made_same = search_on S₀ x left ls₀ m (λ z. omega arith) u a.same
 
     abbrev S₁ : Snapshot
     S₁ = snap_of W B l
@@ -270,17 +279,17 @@ module _ (W A : List ℕ) (l : Layout) (x : FindPathCtx) (left : ℕ) (s : Stack
     made_next : left ≡ suc (left - 1)
     made_next = omega arith
 
-    pub made_asked : r.found ≡ true → (0 < r.steps) × (r.steps ≤ 17) × (last_place r < word_limit)
+    pub made_asked : (given r).found ≡ true → (0 < (given r).steps) × ((given r).steps ≤ 17) × (last_place (given r) < word_limit)
     made_asked = row_asked W A l y.reads x (left - 1) left m made_next tight_low u (made_same ∙ tight_same) (omega (arith, y.deep))
 
-    made_row : Row W l S₀ x left m (row_of r)
+    made_row : Row W l S₀ x left m (row_of (given r))
     made_row = row_kept W A l y.reads x (left - 1) left m made_next tight_low u (made_same ∙ tight_same) (omega (arith, y.deep))
 
     made_number : left ≡ distance B m
     made_number = t.number
         ∙ sym (agree B A s.top a.below (table_words + m) (omega (arith, y.numbers, known, y.reads.tables.limited.modules)))
 
-    pub made_done : {w : ℕ} → w ≡ row_of r → Answered W A l x s.top (search_local S₀ x left ls₀ m) (set B (rows_at + m) w) r
+    pub made_done : {w : ℕ} → w ≡ row_of (given r) → Answered W A l x s.top (search_local S₀ x left ls₀ m) (set B (rows_at + m) w) r
     made_done {w} e =
         record {
           same = made_same;
@@ -313,42 +322,47 @@ module _ (W A : List ℕ) (l : Layout) (x : FindPathCtx) (left : ℕ) (s : Stack
         in omega arith)
         ls₀ (λ i o. let f = t.farther i o in omega arith)
 
-    module _ (some_left : 0 < left) {o : ℕ} (q : o ≡ (scope_at W (row_place w)).owner) (B : List ℕ) {c : Choice}
+    module _ (some_left : 0 < left) {o : ℕ} (q : o ≡ (scope_at W (row_place w)).owner) (B : List ℕ) {c : Option Path}
         (a : Answered W A l x s.top (search_local S₀ x (left - 1) ls₀ o) B c) where
-      owner_choice : c ≡ search_local S₀ x (left - 1) [] (scope_at W (row_place w)).owner
+      owner_choice : given c ≡ search_local S₀ x (left - 1) [] (scope_at W (row_place w)).owner
       owner_choice = a.same ∙ ap (λ z. search_local S₀ x (left - 1) ls₀ z) q ∙ owner_same some_left
-
-      owner_fits : Fits S₀ (left - 1) c
-      owner_fits = subst (Fits S₀ (left - 1)) (sym a.same) (search_local_fits S₀ x (left - 1) ls₀ o)
 
       pub owner_reads : Reads W B l
       owner_reads = reads_at W A B l s.top y.reads y.tables a.below
 
-      pub owner_found : c.found ≡ true
-      owner_found = ap (λ (z : Choice). z.found) owner_choice ∙ row_entered.found
+      -- it has a path
+      pub owner_found : {r : Option Path} → c ≡ None → Answered W A l x s.top (search_local S₀ x left ls₀ m) B r
+      owner_found e = absurd (true≢false (sym row_entered.found ∙ sym (ap (λ (z : Choice). z.found) owner_choice) ∙ ap (λ o. (given o).found) e))
 
-      pub owner_few : c.count < 16
-      owner_few = omega (arith, owner_fits.few, y.deep)
+      module _ {d : Path} (k : c ≡ Some d) where
+        owner_path : chosen d ≡ search_local S₀ x (left - 1) [] (scope_at W (row_place w)).owner
+        owner_path = sym (ap given k) ∙ owner_choice
 
-      pub owner_steps : c.steps < 17
-      owner_steps = omega (arith, owner_fits.once, owner_few)
+        owner_fits : Fits S₀ (left - 1) (chosen d)
+        owner_fits = subst (Fits S₀ (left - 1)) (sym a.same ∙ ap given k) (search_local_fits S₀ x (left - 1) ls₀ o)
 
-      pub owner_text : c.path_text_len < 2 ^ 32
-      owner_text = omega (arith, owner_fits.text (names_short W A l y.reads), owner_few)
+        pub owner_few : d.count < 16
+        owner_few = omega (arith, owner_fits.few, y.deep)
 
-      pub owner_done : {r : Choice} → r ≡ extended (snap_of W B l) c (scope_at W (row_place w)).name (step_by via_local (row_place w)) (row_flag w)
-          → Answered W A l x s.top (search_local S₀ x left ls₀ m) B r
-      owner_done z =
-          record {
-            same =
-                z
-                ∙ ap (λ (k : Snapshot). extended k c (scope_at W (row_place w)).name (step_by via_local (row_place w)) (row_flag w))
-                (snap_at W A B l s.top y.reads y.tables a.below)
-                ∙ ap (λ (k : Choice). extended S₀ k (scope_at W (row_place w)).name (step_by via_local (row_place w)) (row_flag w)) owner_choice
-                ∙ sym (tight_same ∙ row_entered.same);
-            below = a.below;
-            rows = a.rows;
-          }
+        pub owner_steps : d.steps < 17
+        owner_steps = omega (arith, owner_fits.once, owner_few)
+
+        pub owner_text : d.path_text_len < 2 ^ 32
+        owner_text = omega (arith, owner_fits.text (names_short W A l y.reads), owner_few)
+
+        pub owner_done : {r : Path} → chosen r ≡ extended (snap_of W B l) (chosen d) (scope_at W (row_place w)).name (step_by via_local (row_place w)) (row_flag w)
+            → Answered W A l x s.top (search_local S₀ x left ls₀ m) B (Some r)
+        owner_done z =
+            record {
+              same =
+                  z
+                  ∙ ap (λ (k : Snapshot). extended k (chosen d) (scope_at W (row_place w)).name (step_by via_local (row_place w)) (row_flag w))
+                  (snap_at W A B l s.top y.reads y.tables a.below)
+                  ∙ ap (λ (k : Choice). extended S₀ k (scope_at W (row_place w)).name (step_by via_local (row_place w)) (row_flag w)) owner_path
+                  ∙ sym (tight_same ∙ row_entered.same);
+              below = a.below;
+              rows = a.rows;
+            }
 
 -- nothing is under way: the numbers are set, the records are chained, the walk is taken, and the rows are cleared
 module _ (W A₀ : List ℕ) (l : Layout) (x : FindPathCtx) (p : Prepared W A₀ l x) (N : List ℕ) (n : Bounded W A₀ l x N) where
@@ -405,7 +419,7 @@ module _ (W A₀ : List ℕ) (l : Layout) (x : FindPathCtx) (p : Prepared W A₀
             under = omega arith;
           }
 
-      pub search_done : (left : ℕ) (item : Item) (B : List ℕ) (r : Choice)
+      pub search_done : (left : ℕ) (item : Item) (B : List ℕ) (r : Option Path)
           → Answered W A l x walk_end (calculate_best_path_local (snap_of W A l) x (search_local (snap_of W A l) x) left (levels_of A 0 0) item) B r
           → Chosen A₀ (best_local (snap_of W A₀ l) x left item) B r
       unfolding best_local levels_of

@@ -1,10 +1,12 @@
 -- What the functions of the local search require and ensure.
-use Rattle.std.specs.Prelude.{ℕ, ◌+◌, ◌*◌, ◌≤◌, ◌<◌, ◌≡◌, List, true, length, take}
+use Rattle.std.specs.Prelude.{ℕ, ◌+◌, ◌*◌, ◌≤◌, ◌<◌, ◌≡◌, List, Option, length, take}
 use Rattle.snapshot.specs.Limits.{module_limit, path_limit, area_limit}
 use Rattle.snapshot.specs.Layouts.{table_words, snap_of}
 use Rattle.snapshot.specs.declared.layout.Layout.{Layout}
 use Rattle.accept.specs.Post.{Reads}
-use Rattle.path_choices.specs.declared.Choice.{Choice}
+use Rattle.path_choices.specs.declared.Choice.{Choice as Path}
+use Rattle.path_choices.specs.Choices.{Choice}
+use Rattle.path_choices.specs.Given.{given}
 use Rattle.find_path.specs.declared.FindPathCtx.{FindPathCtx}
 use Rattle.distances.specs.Distances.{distance, Bounds}
 use Rattle.local_levels.specs.declared.Stack.{Stack}
@@ -12,11 +14,6 @@ use Rattle.local_levels.specs.Levels.{Chain}
 use Rattle.scope_index.specs.Index.{Indexed}
 use Rattle.walk_once.specs.Walked.{walk_end, Walked}
 use Rattle.tight_rows.specs.Rows.{rows_at, Rows}
-
--- an answer that is c where c is found
-pub record Ruling (c r : Choice) : Type 0 where
-  pub found : r.found ≡ c.found
-  pub same : r.found ≡ true → r ≡ c
 
 -- words of a level: three, and its run of modules
 abbrev pub level_size : ℕ
@@ -41,7 +38,7 @@ pub record Searchable (W A : List ℕ) (l : Layout) (x : FindPathCtx) (left : �
   pub under : s.place ≤ s.top
 
 -- The choice of a local search; nothing below top is changed, and the rows hold.
-pub record Answered (W A₀ : List ℕ) (l : Layout) (x : FindPathCtx) (top : ℕ) (c : Choice) (A : List ℕ) (r : Choice) : Type 0 where
-  pub same : r ≡ c
+pub record Answered (W A₀ : List ℕ) (l : Layout) (x : FindPathCtx) (top : ℕ) (c : Choice) (A : List ℕ) (r : Option Path) : Type 0 where
+  pub same : given r ≡ c
   pub below : take top A ≡ take top A₀
   pub rows : Rows W A l x

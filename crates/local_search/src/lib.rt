@@ -5,6 +5,7 @@ ghost use Rattle.std.specs.Prelude.{◌≡◌, false, ◌-◌, ◌≤◌, ◌<�
 ghost use Rattle.snapshot.specs.Limits.{path_limit};
 ghost use Rattle.snapshot.specs.Laid.{snap_by};
 ghost use Rattle.accept.specs.Opened.{snap_in};
+ghost use Rattle.path_choices.specs.Given.{given};
 ghost use Rattle.find_path.specs.Rules.{module_rules};
 ghost use Rattle.find_path.specs.Local.{importable_name, location as location_of, calculate_best_path_local};
 ghost use Rattle.find_path.specs.Search.{search_local, best_local};
@@ -12,7 +13,7 @@ ghost use Rattle.find_path.specs.Conditions.{Prepared, Asked, Chosen};
 ghost use Rattle.distances.specs.Distances.{distance, Bounds};
 ghost use Rattle.local_levels.specs.Levels.{levels_of};
 ghost use Rattle.tight_rows.specs.Post.{Tight};
-ghost use Rattle.local_search.specs.Post.{Ruling, Searchable, Answered};
+ghost use Rattle.local_search.specs.Post.{Searchable, Answered};
 
 use accept::opened::Snapshot;
 use distances::{Distances, set_distances};
@@ -21,7 +22,7 @@ use hir_def::Item;
 use local_levels::levels::code_of;
 use local_levels::{Sought, Stack};
 use path_offers::offers::{importable_name, offer_entry};
-use path_rules::choices::{length_left, nothing};
+use path_rules::choices::length_left;
 use path_rules::rules::module_rules;
 use scope_index::index_scopes;
 use snapshot::ids::{Area, ModuleId};
@@ -31,6 +32,8 @@ use snapshot::words::word;
 use tight_rows::{Rows, clear_rows, from_row, is_tight, row_of, row_place};
 use walk_once::{Walk, locations, take_walk};
 
+// The context, the length left and the item are parameters of their own, as in the Rust and in the definitions.
+
 // One module of the run: its path with the item's name there, against the choice so far, unless the module is too far.
 #[cycle(find_path_for_module_local_local_at_location_tight_at)]
 fn location(
@@ -38,15 +41,15 @@ fn location(
     area: &mut [u32],
     x: FindPathCtx,
     left: usize,
-    best: Choice,
+    best: Option<Choice>,
     sought: Sought,
     m: ModuleId,
     s: Stack,
-) -> Choice
-    requires { (0 < left) × Searchable records.now.words.now area.old records.now.layout x (left - 1) s × (m.0 < records.now.layout.modules) × (best.count < 2 ^ 32) }
+) -> Option<Choice>
+    requires { (0 < left) × Searchable records.now.words.now area.old records.now.layout x (left - 1) s × (m.0 < records.now.layout.modules) × ((given best).count < 2 ^ 32) }
     ensures { Answered records.now.words.now area.old records.now.layout x s.top
         (location_of (snap_by records.now area.old) x (search_local (snap_by records.now area.old) x)
-        left (levels_of area.old s.place s.depth) best m.0
+        left (levels_of area.old s.place s.depth) (given best) m.0
         (importable_name (snap_by records.now area.old) x sought.item m.0)) area.new result }
 {
     let j = length_left(left, best);
@@ -57,8 +60,7 @@ fn location(
         records: *records,
         area,
     };
-    let a = importable_name(&db, x, sought.item, m);
-    let Some(h) = a else {
+    let Some(h) = importable_name(&db, x, sought.item, m) else {
         return best;
     };
     let c = find_path_for_module_local(records, area, x, j, m, s);
@@ -70,12 +72,12 @@ fn location(
 }
 
 // The rules' answer for a module, if it has one: a module with a number above 1 has none.
-fn rules_at(db: &Snapshot, x: FindPathCtx, m: ModuleId) -> Choice
+fn rules_at(db: &Snapshot, x: FindPathCtx, m: ModuleId) -> Option<Choice>
     requires { (x.from.0 < db.now.records.layout.modules) × (m.0 < db.now.records.layout.modules) × Bounds (snap_in db.now) x db.now.records.layout.modules (distance db.now.area.now) }
-    ensures { Ruling (module_rules (snap_in db.now) x false m.0) result }
+    ensures { given result ≡ module_rules (snap_in db.now) x false m.0 }
 {
     if 1 < word(db.area, Distances::AT + m.0) {
-        return nothing();
+        return None;
     }
     module_rules(db, x, false, m)
 }
@@ -89,22 +91,22 @@ fn find_path_for_module_local(
     left: usize,
     m: ModuleId,
     s: Stack,
-) -> Choice
+) -> Option<Choice>
     requires { Searchable records.now.words.now area.old records.now.layout x left s × (m.0 < records.now.layout.modules) }
     ensures { Answered records.now.words.now area.old records.now.layout x s.top
         (search_local (snap_by records.now area.old) x left (levels_of area.old s.place s.depth) m.0)
         area.new result }
 {
     if left == 0 {
-        return nothing();
+        return None;
     }
     let db = Snapshot {
         records: *records,
         area,
     };
-    let c = rules_at(&db, x, m);
-    if c.found {
-        return c;
+    // An early return, as in the Rust.
+    if let Some(c) = rules_at(&db, x, m) {
+        return Some(c);
     }
     if is_tight(area, s, left, m) {
         return tight_at(records, area, x, left, m, s);
@@ -122,7 +124,7 @@ fn tight_at(
     left: usize,
     m: ModuleId,
     s: Stack,
-) -> Choice
+) -> Option<Choice>
     requires { (0 < left) × Searchable records.now.words.now area.old records.now.layout x left s × (m.0 < records.now.layout.modules) × Tight area.old s left m.0
         × ((module_rules (snap_by records.now area.old) x false m.0).found ≡ false) }
     ensures { Answered records.now.words.now area.old records.now.layout x s.top
@@ -138,15 +140,15 @@ fn tight_at(
         return r;
     }
     if row == 1 {
-        return nothing();
+        return None;
     }
     let owner = scope_owner(records.words, row_place(row));
-    let c = find_path_for_module_local(records, area, x, left - 1, owner, s);
+    let c = find_path_for_module_local(records, area, x, left - 1, owner, s)?;
     let db = Snapshot {
         records: *records,
         area,
     };
-    from_row(&db, x, c, row)
+    Some(from_row(&db, c, row))
 }
 
 // A local search: it opens a level at the top, gathers its run, and searches for each module of it one level up.
@@ -158,7 +160,7 @@ fn local_at(
     left: usize,
     sought: Sought,
     s: Stack,
-) -> Choice
+) -> Option<Choice>
     requires { (0 < left) × Searchable records.now.words.now area.old records.now.layout x left s }
     ensures { Answered records.now.words.now area.old records.now.layout x s.top
         (calculate_best_path_local (snap_by records.now area.old) x
@@ -181,7 +183,7 @@ fn local_at(
         place: base,
         depth: s.depth + 1,
     };
-    let mut best = nothing();
+    let mut best = None;
     for k in 0..n {
         let cursor = s.top + 2;
         area[cursor] = k as u32;
@@ -199,7 +201,7 @@ pub fn calculate_best_path_local(
     x: FindPathCtx,
     left: usize,
     item: Item,
-) -> Choice
+) -> Option<Choice>
     requires { Prepared records.now.words.now area.old records.now.layout x × Asked records.now.layout item × (0 < left) × (left ≤ path_limit) }
     ensures { Chosen area.old (best_local (snap_by records.now area.old) x left item) area.new result }
 {

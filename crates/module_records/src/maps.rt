@@ -48,7 +48,7 @@ fn placed(words: &[u32], area: &[u32], at: usize) -> bool
     }
     let here = map_crate(words, module_head(area, ModuleId(block - 1)));
     let krate = map_crate(words, at);
-    here.0 == krate.0
+    here == krate
 }
 
 /// A map.

@@ -1,4 +1,7 @@
 -- What the tables say of the modules of an accepted snapshot.
+use Rattle.std.specs.Prelude.{Option, None, Some, MatchOption}
+use Rattle.snapshot.specs.Ids.{plus_one}
+use Rattle.snapshot.specs.declared.ids.ModuleId.{ModuleId}
 use Prim.Native.Nat.{ℕ, zero, suc, ◌+◌, ◌-◌, ◌*◌, ◌≤◌, ◌<◌}
 use mathlib.Core.Path.{◌≡◌, refl, sym, ◌∙◌, ap, subst}
 use mathlib.Core.List.{List, [], ◌∷◌}
@@ -79,6 +82,13 @@ pub containing_block : (p b : ℕ) → p ≡ 0 → b ≡ or_else p b
 unfolding or_else
 containing_block zero b h = refl
 containing_block (suc p) b h = absurd (omega arith)
+
+-- a number, or another's
+pub or_another : {p : ℕ} (b : ℕ) (o r : Option ModuleId) {Q : Type 0} → plus_one o ≡ p → MatchOption o Q (λ x. r ≡ Some x)
+    → (Q → plus_one r ≡ b) → plus_one r ≡ or_else p b
+unfolding plus_one or_else
+or_another b None r e h k = rw (← e) (k h)
+or_another b (Some m) r e h k = rw (h, ← e) (containing_parent (m.0 + 1) b (omega arith))
 
 pub length_modules : (W A : List ℕ) (l : Layout) → length (snap_of W A l).modules ≡ l.modules
 length_modules W A l = length_rows (module_row A) l.modules

@@ -64,10 +64,8 @@ pub fn containing_module(db: &Snapshot, m: ModuleId) -> Option<ModuleId>
     requires { m.0 < db.now.records.layout.modules }
     ensures { plus_one result ≡ containing_of (snap_in db.now) m.0 }
 {
-    let Some(p) = parent(db, m) else {
-        return block(db, m);
-    };
-    Some(p)
+    let outward = || block(db, m);
+    parent(db, m).or_else(outward)
 }
 
 /// The root of a map.

@@ -11,16 +11,16 @@ ghost use Rattle.hir_def.specs.Entries.{entry_of};
 use accept::opened::Snapshot;
 use hir_def::Item;
 use hir_def::finds::nearest;
-use hir_def::items::{item_of, same_item};
+use hir_def::items::item_at;
 use hir_def::modules::block;
 use item_scope::{entry_in, get};
 use snapshot::ids::{ModuleId, Name, Namespace};
-use snapshot::record::{scope_definition, scope_ns};
 use snapshot::records::Records;
 
 /// The item's entry in a module, or around its blocks: the first; only entries declared there where these alone count; by options bit 32
 /// the first in its scope that isn't deprecated, if there is one.
 // `declared_only` and `fresh` are what the context says of the question, and two variables of type Bool in the definition.
+// No `View` here or below: the search's callers have `db` and the viewer's number of a context (`FindPathCtx`), and would make a view at each call.
 pub fn scope_entry(
     db: &Snapshot,
     from: ModuleId,
@@ -58,12 +58,7 @@ fn is_other(records: &Records, e: Option<usize>, m: ModuleId) -> bool
     let Some(h) = e else {
         return false;
     };
-    let item = item_of(
-        records,
-        scope_ns(records.words, h),
-        scope_definition(records.words, h),
-    );
-    !same_item(item, Item::Mod(m))
+    item_at(records, h) != Item::Mod(m)
 }
 
 /// Whether a name is another thing's than a module's in types, in the module `from` or around its blocks.

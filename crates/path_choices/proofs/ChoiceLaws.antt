@@ -1,10 +1,15 @@
 -- Laws of choices, for the code.
+use Prim.Native.Nat.compare
 use Prim.Native.Nat.{ℕ, zero, suc, ◌+◌, ◌-◌, ◌≤◌, ◌<◌, min, compare, Ordering}
 use mathlib.Core.Path.{◌≡◌, refl, sym, ◌∙◌, ap, ap₂}
 use mathlib.Core.List.{List, [], ◌∷◌}
-use mathlib.Core.Bool.{Bool, true, false, ◌&&◌, ◌||◌, not, and-true, true≢false, false≢true}
+use mathlib.Core.Bool.{Bool, true, false, ◌&&◌, and-true, true≢false, false≢true}
 use native.Mathlib.Omega.{arith}
-use lib.Dec.{eqb, ltb, leb, is_le, compare_is_eq}
+use Rattle.std.specs.Prelude.{Option, None, Some, is_some, cond}
+use Rattle.std.specs.declared.cmp.Ordering.{Ordering as Order}
+use Rattle.std.specs.declared.cmp.Ordering.TheVariants.{Less, Equal, Greater}
+use Rattle.std.specs.Ordering.{is_gt, bool_cmp, nat_cmp, ordering_then}
+use lib.Dec.{eqb, ltb, leb-zero, leb-suc-zero, leb-suc-suc, eqb-zero-suc, eqb-suc-zero, eqb-suc-suc}
 use lib.ListN.{get_or, set, replicate}
 use borrow.Author.Tests.{eqb-true}
 use Rattle.snapshot.specs.Lists.{rows, eq_list}
@@ -14,10 +19,17 @@ use Rattle.snapshot.specs.Layouts.{name_head, snap_of}
 use Rattle.snapshot.specs.declared.layout.Layout.{Layout}
 use Rattle.snapshot.proofs.Laws.{past}
 use Rattle.accept.specs.Post.{Reads}
-use Rattle.path_choices.specs.declared.Choice.{Choice}
+use Rattle.path_choices.specs.Choices.{Choice}
+use Rattle.path_choices.specs.declared.Choice.{Choice as Path}
+use Rattle.path_choices.specs.Given.{given}
 use Rattle.path_choices.proofs.Names.{name_read}
 use Rattle.path_choices.specs.Choices.{name_len, is_prelude, path_kind_len, path_len, keyword, choice_new, extended, push, try_select, compare_bool}
 use Rattle.path_choices.specs.Choices.{and_then, compare_prelude, taken, better, shorter_if, length_left}
+
+-- an answer is a path where the code has one
+pub given_some : (o : Option Path) → is_some o ≡ (given o).found
+given_some None = refl
+given_some (Some c) = refl
 
 -- the branch of a test
 module _ {A : Type 0} (a b : A) where
@@ -81,55 +93,74 @@ pub len_past : (c : Choice) → 5 ≤ c.kind → c.count ≡ path_len c
 unfolding path_len
 len_past c h = let e = past (0 ∷ 0 ∷ 1 ∷ 1 ∷ 0 ∷ []) c.kind h in omega arith
 
--- an order of flags first, then what follows
-abbrev by_flags : Bool → Bool → Bool → Bool
-by_flags s t z = (s && not t) || (((s && t) || (not s && not t)) && z)
+-- the orders of the code as those of the definitions
+abbrev order_of : Order → Ordering
+order_of Less = Ordering.lt
+order_of Equal = Ordering.eq
+order_of Greater = Ordering.gt
 
-by_flags_lem : (s t : Bool) (o : Ordering) (r : Bool) → by_flags s t (taken o r) ≡ taken (and_then (compare_bool s t) o) r
-unfolding compare_bool and_then taken
-by_flags_lem true true o r = refl
-by_flags_lem true false o r = refl
-by_flags_lem false true o r = refl
-by_flags_lem false false o r = refl
+order_bool : (x y : Bool) → order_of (bool_cmp x y) ≡ compare_bool x y
+unfolding compare_bool
+order_bool false false = refl
+order_bool false true = refl
+order_bool true false = refl
+order_bool true true = refl
 
--- the flag of the one, or of the other
-abbrev wanted : Bool → Bool → Bool → Bool
-wanted p x y = (p && x) || (not p && y)
+pub prelude_first : (x y : Bool) {p : Bool} {z : Order} → p ≡ true → z ≡ bool_cmp y x → order_of z ≡ compare_prelude p x y
+unfolding compare_prelude
+prelude_first x y f e = ap order_of e ∙ order_bool y x ∙ ap (λ p. compare_prelude p x y) (sym f)
 
-by_prefer : (p cur oth : Bool) → compare_prelude p cur oth ≡ compare_bool (wanted p oth cur) (wanted p cur oth)
-unfolding compare_prelude compare_bool
-by_prefer true true true = refl
-by_prefer true true false = refl
-by_prefer true false true = refl
-by_prefer true false false = refl
-by_prefer false true true = refl
-by_prefer false true false = refl
-by_prefer false false true = refl
-by_prefer false false false = refl
+pub prelude_last : (x y : Bool) {p : Bool} {z : Order} → p ≡ false → z ≡ bool_cmp x y → order_of z ≡ compare_prelude p x y
+unfolding compare_prelude
+prelude_last x y f e = ap order_of e ∙ order_bool x y ∙ ap (λ p. compare_prelude p x y) (sym f)
 
-by_order : (o : Ordering) (r : Bool) → (not (is_le o) || (compare_is_eq o && r)) ≡ taken o r
+abbrev by_tests : Bool → Bool → Ordering
+by_tests less same = order_of (cond less Less (cond same Equal Greater))
+
+order_nat : (m n : ℕ) → order_of (nat_cmp m n) ≡ compare m n
+order_nat zero zero = refl
+order_nat zero (suc n) = ap₂ by_tests (leb-suc-suc zero n ∙ leb-zero n) (eqb-zero-suc n) ∙ sym (compare.zero-suc n)
+order_nat (suc m) zero = ap₂ by_tests (leb-suc-zero (suc m)) (eqb-suc-zero m) ∙ sym (compare.suc-zero m)
+order_nat (suc m) (suc n) = ap₂ by_tests (leb-suc-suc (suc m) n) (eqb-suc-suc m n) ∙ order_nat m n ∙ sym (compare.suc-suc m n)
+
+order_then : (a b c : Order) → order_of (ordering_then (ordering_then a b) c) ≡ and_then (order_of a) (and_then (order_of b) (order_of c))
+unfolding and_then
+order_then Less b c = refl
+order_then Equal Less c = refl
+order_then Equal Equal c = refl
+order_then Equal Greater c = refl
+order_then Greater b c = refl
+
+nat_after : (m n : ℕ) → is_gt (nat_cmp m n) ≡ ltb n m
+nat_after zero zero = refl
+nat_after zero (suc n) = ap₂ (λ x y. is_gt (cond x Less (cond y Equal Greater))) (leb-suc-suc zero n ∙ leb-zero n) (eqb-zero-suc n)
+    ∙ sym (leb-suc-zero (suc n))
+nat_after (suc m) zero = ap₂ (λ x y. is_gt (cond x Less (cond y Equal Greater))) (leb-suc-zero (suc m)) (eqb-suc-zero m)
+    ∙ sym (leb-suc-suc zero m ∙ leb-zero m)
+nat_after (suc m) (suc n) = ap₂ (λ x y. is_gt (cond x Less (cond y Equal Greater))) (leb-suc-suc (suc m) n) (eqb-suc-suc m n)
+    ∙ nat_after m n ∙ sym (leb-suc-suc (suc n) m)
+
+order_taken : (o : Order) (m n : ℕ) → is_gt (ordering_then o (nat_cmp m n)) ≡ taken (order_of o) (ltb n m)
 unfolding taken
-by_order Ordering.lt r = refl
-by_order Ordering.eq r = refl
-by_order Ordering.gt r = refl
+order_taken Less m n = refl
+order_taken Equal m n = nat_after m n
+order_taken Greater m n = refl
 
--- the code's test
-pub better_same : (s : Snapshot) (p : Bool) (cur oth : Choice) (n : ℕ) {a b k : ℕ} → a ≡ path_len cur → b ≡ path_len oth → k ≡ name_len s n
-    → by_flags oth.stable cur.stable
-    (by_flags (wanted p oth.has_prelude_segment cur.has_prelude_segment) (wanted p cur.has_prelude_segment oth.has_prelude_segment)
-    (not (leb a (b + 1)) || (eqb a (b + 1) && ltb (oth.path_text_len + k) cur.path_text_len)))
+-- the code's test, the order of all four
+pub better_same : (s : Snapshot) (p : Bool) (cur oth : Choice) (n : ℕ) {a b k : ℕ} (z : Order) → a ≡ path_len cur → b ≡ path_len oth
+    → k ≡ name_len s n → order_of z ≡ compare_prelude p cur.has_prelude_segment oth.has_prelude_segment
+    → is_gt (ordering_then (ordering_then (ordering_then (bool_cmp oth.stable cur.stable) z) (nat_cmp a (b + 1)))
+    (nat_cmp cur.path_text_len (oth.path_text_len + k)))
     ≡ better s p cur oth n
 unfolding better
-better_same s p cur oth n {a} {b} {k} ea eb ek =
-    let x = wanted p oth.has_prelude_segment cur.has_prelude_segment in
-    let y = wanted p cur.has_prelude_segment oth.has_prelude_segment in
-    let r = ltb (oth.path_text_len + k) cur.path_text_len in
-    let o = compare a (b + 1) in
-    ap (λ z. by_flags oth.stable cur.stable (by_flags x y z)) (by_order o r)
-    ∙ ap (by_flags oth.stable cur.stable) (by_flags_lem x y o r ∙ ap (λ z. taken (and_then z o) r)
-    (sym (by_prefer p cur.has_prelude_segment oth.has_prelude_segment)))
-    ∙ by_flags_lem oth.stable cur.stable (and_then (compare_prelude p cur.has_prelude_segment oth.has_prelude_segment) o) r
-    ∙ cc
+better_same s p cur oth n {a} {b} {k} z ea eb ek ez =
+    let f : order_of (nat_cmp a (b + 1)) ≡ compare (path_len cur) (path_len oth + 1) =
+    order_nat a (b + 1) ∙ ap₂ (λ x y. compare x (y + 1)) ea eb in
+    order_taken _ cur.path_text_len (oth.path_text_len + k)
+    ∙ ap₂ (λ x y. taken x (ltb (oth.path_text_len + y) cur.path_text_len))
+    (order_then (bool_cmp oth.stable cur.stable) z (nat_cmp a (b + 1))
+    ∙ ap₂ (λ x y. and_then x y) (order_bool oth.stable cur.stable) (ap₂ (λ x y. and_then x y) ez f))
+    ek
 
 pub left_none : (left : ℕ) (c : Choice) → c.found ≡ false → left - 1 ≡ length_left left c
 unfolding length_left shorter_if

@@ -1,9 +1,20 @@
 -- `Choice`, `push`, `try_select`, and the lengths of a path.
 use Prim.Native.Nat.{ℕ, ◌+◌, ◌-◌, ◌*◌, min, compare, Ordering}
-use Rattle.std.specs.Prelude.{[], ◌∷◌, Bool, true, false, ◌&&◌, ◌||◌, eqb, ltb, get_or, replicate, set}
+use Rattle.std.specs.Prelude.{List, [], ◌∷◌, Bool, true, false, ◌&&◌, ◌||◌, eqb, ltb, get_or, replicate, set}
 use Rattle.snapshot.specs.Lists.{eq_list}
 use Rattle.snapshot.specs.Records.{Snapshot, Name}
-use Rattle.path_choices.specs.declared.Choice.{Choice}
+
+-- A path of the rules, or none. `Given.antt` says what the code answers for it.
+pub record Choice : Type 0 where
+  pub found : Bool
+  pub kind : ℕ
+  pub names : List ℕ
+  pub count : ℕ
+  pub path_text_len : ℕ
+  pub stable : Bool
+  pub has_prelude_segment : Bool
+  pub route : List ℕ
+  pub steps : ℕ
 
 unfoldable pub name_data : Snapshot → ℕ → Name
 name_data s n = get_or s.names n (record { bytes = 0; text = [] })

@@ -2,9 +2,10 @@
 ghost use Rattle.std.specs.Prelude.{◌≡◌, ◌+◌, ◌%◌, ◌≤◌, ◌<◌, ◌^◌};
 ghost use Rattle.snapshot.specs.Limits.{word_limit};
 ghost use Rattle.accept.specs.Opened.{snap_in};
-ghost use Rattle.path_choices.specs.Choices.{name_len, is_prelude, path_kind_len, path_len, step_by, nothing as nothing_of, keyword as keyword_of};
+ghost use Rattle.path_choices.specs.Choices.{name_len, is_prelude, path_kind_len, path_len, step_by, keyword as keyword_of};
 ghost use Rattle.path_choices.specs.Choices.{choice_new, extended as extended_of, push as push_of, unstably as unstably_of, better as better_of};
 ghost use Rattle.path_choices.specs.Choices.{try_select, length_left};
+ghost use Rattle.path_choices.specs.Given.{chosen, given};
 ghost use Rattle.path_choices.specs.StepRules.{rule_number};
 
 use crate::Choice;
@@ -52,7 +53,7 @@ pub fn path_kind_len(kind: usize) -> usize
 /// The length of a path: its names, and one more for `super` and for `crate`.
 pub fn path_len(c: Choice) -> usize
     requires { c.count < 2 ^ 32 }
-    ensures { (result ≡ path_len c) × (result ≤ c.count + 1) }
+    ensures { (result ≡ path_len (chosen c)) × (result ≤ c.count + 1) }
 {
     let kind = c.kind;
     if 5 <= kind {
@@ -102,35 +103,15 @@ pub fn step_by(rule: StepRule, place: usize) -> usize
     place * 8 + rule as usize
 }
 
-/// No path.
-pub fn nothing() -> Choice
-    ensures { result ≡ nothing_of }
-{
-    let names = [0usize; 16];
-    let route = [0usize; 17];
-    Choice {
-        found: false,
-        kind: 0,
-        names: names,
-        count: 0,
-        path_text_len: 0,
-        stable: false,
-        has_prelude_segment: false,
-        route: route,
-        steps: 0,
-    }
-}
-
 /// A keyword without names.
 pub fn keyword(kind: usize) -> Choice
-    ensures { result ≡ keyword_of kind }
+    ensures { chosen result ≡ keyword_of kind }
 {
     let names = [0usize; 16];
     let mut route = [0usize; 17];
     route[0] = StepRule::Keyword as usize;
     let text = path_kind_len(kind);
     Choice {
-        found: true,
         kind: kind,
         names: names,
         count: 0,
@@ -144,7 +125,7 @@ pub fn keyword(kind: usize) -> Choice
 
 /// The choice, unstable.
 pub fn unstably(c: Choice) -> Choice
-    ensures { result ≡ unstably_of c }
+    ensures { chosen result ≡ unstably_of (chosen c) }
 {
     let mut d = c;
     d.stable = false;
@@ -155,25 +136,28 @@ pub fn unstably(c: Choice) -> Choice
 // `prefer` is `prefer_prelude` of the Rust, a setting of the question.
 fn better(db: &Snapshot, prefer: bool, current: Choice, other: Choice, n: Name) -> bool
     requires { (n.0 < db.now.records.layout.names) × (current.count < 2 ^ 32) × (other.count < 2 ^ 32) × (other.path_text_len < 2 ^ 32) }
-    ensures { result ≡ better_of (snap_in db.now) prefer current other n.0 }
+    ensures { result ≡ better_of (snap_in db.now) prefer (chosen current) (chosen other) n.0 }
 {
-    let a = path_len(current);
-    let b = path_len(other) + 1;
-    let shorter = other.path_text_len + name_len(db, n) < current.path_text_len;
-    let by_length = !(a <= b) | ((a == b) & shorter);
-    let x = (prefer & other.has_prelude_segment) | (!prefer & current.has_prelude_segment);
-    let y = (prefer & current.has_prelude_segment) | (!prefer & other.has_prelude_segment);
-    let by_prelude = (x & !y) | (((x & y) | (!x & !y)) & by_length);
-    let s = other.stable;
-    let t = current.stable;
-    (s & !t) | (((s & t) | (!s & !t)) & by_prelude)
+    let text = other.path_text_len + name_len(db, n);
+    let a = other.has_prelude_segment;
+    let b = current.has_prelude_segment;
+    let by_prelude = if prefer { a.cmp(&b) } else { b.cmp(&a) };
+    let by_length = path_len(current).cmp(&(path_len(other) + 1));
+    let by_text = current.path_text_len.cmp(&text);
+    other
+        .stable
+        .cmp(&current.stable)
+        .then(by_prelude)
+        .then(by_length)
+        .then(by_text)
+        .is_gt()
 }
 
 impl Choice {
     /// One name, stable, by a step.
     pub fn new(db: &Snapshot, kind: usize, n: Name, via: usize) -> Choice
         requires { n.0 < db.now.records.layout.names }
-        ensures { result ≡ choice_new (snap_in db.now) kind n.0 via }
+        ensures { chosen result ≡ choice_new (snap_in db.now) kind n.0 via }
     {
         let mut names = [0usize; 16];
         names[0] = n.0;
@@ -182,7 +166,6 @@ impl Choice {
         let text = path_kind_len(kind) + name_len(db, n);
         let prelude = is_prelude(db, n);
         Choice {
-            found: true,
             kind: kind,
             names: names,
             count: 1,
@@ -198,7 +181,7 @@ impl Choice {
     // `flag` is the value of a field, not a switch.
     fn extended(self, db: &Snapshot, n: Name, via: usize, flag: bool) -> Choice
         requires { (n.0 < db.now.records.layout.names) × (self.count < 16) × (self.path_text_len < 2 ^ 32) × (self.steps < 17) }
-        ensures { result ≡ extended_of (snap_in db.now) self n.0 via flag }
+        ensures { chosen result ≡ extended_of (snap_in db.now) (chosen self) n.0 via flag }
     {
         let count = self.count;
         let mut names = self.names;
@@ -208,7 +191,6 @@ impl Choice {
         route[steps] = via;
         let text = self.path_text_len + name_len(db, n);
         Choice {
-            found: true,
             kind: self.kind,
             names: names,
             count: count + 1,
@@ -223,44 +205,44 @@ impl Choice {
     /// One name more, by a step.
     pub fn push(self, db: &Snapshot, n: Name, via: usize) -> Choice
         requires { (n.0 < db.now.records.layout.names) × (self.count < 16) × (self.path_text_len < 2 ^ 32) × (self.steps < 17) }
-        ensures { result ≡ push_of (snap_in db.now) self n.0 via }
+        ensures { chosen result ≡ push_of (snap_in db.now) (chosen self) n.0 via }
     {
         let flag = is_prelude(db, n);
         self.extended(db, n, via, self.has_prelude_segment | flag)
     }
 
-    /// The better of this choice and a newcomer with one name more; the first choice counts that name for `prelude`.
+    /// The better of the choice so far and a newcomer with one name more; the first choice counts that name for `prelude`.
     // `prefer` as in `better`.
     pub fn try_select(
-        self,
+        best: Option<Choice>,
         db: &Snapshot,
         prefer: bool,
         other: Choice,
         n: Name,
         via: usize,
     ) -> Choice
-        requires { (n.0 < db.now.records.layout.names) × (self.count < 2 ^ 32) × (other.count < 16) × (other.path_text_len < 2 ^ 32) × (other.steps < 17) }
-        ensures { result ≡ try_select (snap_in db.now) prefer self other n.0 via }
+        requires { (n.0 < db.now.records.layout.names) × ((given best).count < 2 ^ 32) × (other.count < 16) × (other.path_text_len < 2 ^ 32) × (other.steps < 17) }
+        ensures { chosen result ≡ try_select (snap_in db.now) prefer (given best) (chosen other) n.0 via }
     {
-        if !self.found {
+        let Some(current) = best else {
             return other.push(db, n, via);
-        }
-        if better(db, prefer, self, other, n) {
+        };
+        if better(db, prefer, current, other, n) {
             return other.extended(db, n, via, other.has_prelude_segment);
         }
-        self
+        current
     }
 }
 
 /// The length left for a step: one less than the caller's, or than that of the choice so far if it is smaller.
-pub fn length_left(left: usize, best: Choice) -> usize
-    requires { best.count < 2 ^ 32 }
-    ensures { result ≡ length_left left best }
+pub fn length_left(left: usize, best: Option<Choice>) -> usize
+    requires { (given best).count < 2 ^ 32 }
+    ensures { result ≡ length_left left (given best) }
 {
-    if !best.found {
+    let Some(c) = best else {
         return left.saturating_sub(1);
-    }
-    let n = path_len(best);
+    };
+    let n = path_len(c);
     if n < left {
         return n.saturating_sub(1);
     }

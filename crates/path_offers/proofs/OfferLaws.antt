@@ -5,7 +5,7 @@ use mathlib.Core.Bool.{Bool, true, false}
 use Rattle.std.specs.Prelude.{None, Some}
 use Rattle.snapshot.specs.Records.{Snapshot, Scope, Import}
 use Rattle.hir_def.specs.ImportMap.{is_unstable}
-use Rattle.path_choices.specs.declared.Choice.{Choice}
+use Rattle.path_choices.specs.Choices.{Choice}
 use Rattle.find_path.specs.declared.FindPathCtx.{FindPathCtx}
 use Rattle.path_choices.specs.Choices.{via_local, via_import, step_by, unstably, try_select}
 use Rattle.find_path.specs.Local.{offer, offer_entry, is_importable, entry_if}

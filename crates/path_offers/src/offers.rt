@@ -6,6 +6,7 @@ ghost use Rattle.accept.specs.Valid.{ScopeFits, ImportFits};
 ghost use Rattle.accept.specs.Opened.{snap_in};
 ghost use Rattle.hir_def.specs.Entries.{entry_of};
 ghost use Rattle.hir_def.specs.ItemScope.{name_of, preferred};
+ghost use Rattle.path_choices.specs.Given.{given};
 ghost use Rattle.find_path.specs.Conditions.{EntryFits};
 ghost use Rattle.find_path.specs.Local.{offer as offer_of, offer_entry, is_importable, importable_name};
 ghost use Rattle.find_path.specs.Charged.{offer_import};
@@ -50,20 +51,33 @@ pub fn importable_name(db: &Snapshot, x: FindPathCtx, item: Item, m: ModuleId) -
 }
 
 // The better of the choice so far and the module's choice with the name, by a step, if it has one.
-fn offer(db: &Snapshot, x: FindPathCtx, best: Choice, c: Choice, n: Name, via: usize) -> Choice
-    requires { (n.0 < db.now.records.layout.names) × (best.count < 2 ^ 32) × (c.count < 16) × (c.path_text_len < 2 ^ 32) × (c.steps < 17) }
-    ensures { result ≡ offer_of (snap_in db.now) x best c n.0 via }
+fn offer(
+    db: &Snapshot,
+    x: FindPathCtx,
+    best: Option<Choice>,
+    c: Option<Choice>,
+    n: Name,
+    via: usize,
+) -> Option<Choice>
+    requires { (n.0 < db.now.records.layout.names) × ((given best).count < 2 ^ 32) × ((given c).count < 16) × ((given c).path_text_len < 2 ^ 32) × ((given c).steps < 17) }
+    ensures { given result ≡ offer_of (snap_in db.now) x (given best) (given c) n.0 via }
 {
-    if !c.found {
+    let Some(other) = c else {
         return best;
-    }
-    best.try_select(db, x.prefer_prelude, c, n, via)
+    };
+    Some(Choice::try_select(best, db, x.prefer_prelude, other, n, via))
 }
 
 /// The better of the choice so far and the module's choice with the name of the scope entry with its head at a place.
-pub fn offer_entry(db: &Snapshot, x: FindPathCtx, best: Choice, c: Choice, h: usize) -> Choice
-    requires { ScopeFits (counts_in db.now.records.layout) (scope_at db.now.records.words.now h) × (best.count < 2 ^ 32) × (c.count < 16) × (c.path_text_len < 2 ^ 32) × (c.steps < 17) }
-    ensures { result ≡ offer_entry (snap_in db.now) x best c (scope_at db.now.records.words.now h) }
+pub fn offer_entry(
+    db: &Snapshot,
+    x: FindPathCtx,
+    best: Option<Choice>,
+    c: Option<Choice>,
+    h: usize,
+) -> Option<Choice>
+    requires { ScopeFits (counts_in db.now.records.layout) (scope_at db.now.records.words.now h) × ((given best).count < 2 ^ 32) × ((given c).count < 16) × ((given c).path_text_len < 2 ^ 32) × ((given c).steps < 17) }
+    ensures { given result ≡ offer_entry (snap_in db.now) x (given best) (given c) (scope_at db.now.records.words.now h) }
 {
     let n = scope_name(db.records.words, h);
     let via = step_by(StepRule::Local, h);
@@ -71,9 +85,15 @@ pub fn offer_entry(db: &Snapshot, x: FindPathCtx, best: Choice, c: Choice, h: us
 }
 
 /// The same for the import with its head at a place: an unstable one only where it is allowed, and as an unstable choice.
-pub fn offer_import(db: &Snapshot, x: FindPathCtx, best: Choice, c: Choice, h: usize) -> Choice
-    requires { ImportFits (counts_in db.now.records.layout) (import_at db.now.records.words.now h) × (best.count < 2 ^ 32) × (c.count < 16) × (c.path_text_len < 2 ^ 32) × (c.steps < 17) }
-    ensures { result ≡ offer_import (snap_in db.now) x best c (import_at db.now.records.words.now h) }
+pub fn offer_import(
+    db: &Snapshot,
+    x: FindPathCtx,
+    best: Option<Choice>,
+    c: Option<Choice>,
+    h: usize,
+) -> Option<Choice>
+    requires { ImportFits (counts_in db.now.records.layout) (import_at db.now.records.words.now h) × ((given best).count < 2 ^ 32) × ((given c).count < 16) × ((given c).path_text_len < 2 ^ 32) × ((given c).steps < 17) }
+    ensures { given result ≡ offer_import (snap_in db.now) x (given best) (given c) (import_at db.now.records.words.now h) }
 {
     let via = step_by(StepRule::Import, h);
     let n = import_name(db.records.words, h);
@@ -83,5 +103,8 @@ pub fn offer_import(db: &Snapshot, x: FindPathCtx, best: Choice, c: Choice, h: u
     if !x.allow_unstable {
         return best;
     }
-    offer(db, x, best, unstably(c), n, via)
+    let Some(d) = c else {
+        return best;
+    };
+    offer(db, x, best, Some(unstably(d)), n, via)
 }

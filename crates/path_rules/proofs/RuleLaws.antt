@@ -15,6 +15,12 @@ use Rattle.accept.specs.Post.{Reads}
 use Rattle.accept.specs.Valid.{ScopeFits}
 use Rattle.accept.proofs.Valid.{accepted_valid}
 use Rattle.accept.proofs.Reading.{ranges_read}
+use denote.Enum.Bare.{sameb}
+use denote.Enum.Declared.{tag_of}
+use Rattle.snapshot.specs.contracts.ids.PathKind.{the_type}
+use Rattle.snapshot.specs.declared.ids.PathKind.{PathKind}
+use Rattle.snapshot.specs.declared.ids.PathKind.TheVariants.{Plain, SelfModule, Super, Crate, Absolute}
+use Rattle.snapshot.specs.PathKinds.{path_kind_number}
 use Rattle.hir_def.specs.Finds.{first_some}
 use Rattle.hir_def.specs.Items.{map_no, crate_of, in_block, parent_of, root_of, crate_root}
 use Rattle.hir_def.specs.ItemScope.{counts, name_of, names_of, is_fresh, preferred}
@@ -23,13 +29,28 @@ use Rattle.hir_def.specs.declared.Item.{Item}
 use Rattle.hir_def.specs.Entries.{entry_of}
 use Rattle.hir_def.proofs.Found.{each_first}
 use Rattle.hir_def.proofs.Fresh.{preferred_has}
-use Rattle.path_choices.specs.declared.Choice.{Choice}
+use Rattle.path_choices.specs.Choices.{Choice}
 use Rattle.find_path.specs.declared.FindPathCtx.{FindPathCtx}
 use Rattle.path_choices.specs.Choices.{via_scope, via_extern, step_by, nothing, keyword, choice_new}
 use Rattle.find_path.specs.Conditions.{EntryFits}
 use Rattle.find_path.specs.Rules.{prefix_path_kind, first_found, single, find_in_scope, may_be_in_scope, scope_rule, is_usable, prelude_entry, in_prelude}
 use Rattle.find_path.specs.Rules.{find_in_prelude, extern_kind, extern_name, root_rule, parent_kind, is_kw_kind_relative_to_from, keyword_of}
 use Rattle.path_choices.proofs.ChoiceLaws.{taken_true, taken_false}
+
+-- the code's number of a path kind, and its test for `crate`
+pub kind_number : (k : PathKind) → tag_of the_type k ≡ path_kind_number k
+kind_number Plain = refl
+kind_number SelfModule = refl
+kind_number Super = refl
+kind_number Crate = refl
+kind_number Absolute = refl
+
+pub kind_crate : (k : PathKind) → sameb the_type k Crate ≡ eqb (path_kind_number k) 3
+kind_crate Plain = refl
+kind_crate SelfModule = refl
+kind_crate Super = refl
+kind_crate Crate = refl
+kind_crate Absolute = refl
 
 pub prefix_other : (p : ℕ) → (p ≡ 0 → ⊥) → (p ≡ 2 → ⊥) → 0 ≡ prefix_path_kind p
 unfolding prefix_path_kind

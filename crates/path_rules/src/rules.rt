@@ -1,5 +1,5 @@
 //! The rules that answer without a search.
-ghost use Rattle.std.specs.Prelude.{◌≡◌, ℕ, ◌<◌};
+ghost use Rattle.std.specs.Prelude.{◌≡◌, ℕ, ◌<◌, option_map};
 ghost use Rattle.snapshot.specs.Records as lists;
 ghost use Rattle.snapshot.specs.Records.{scope_at, extern_at};
 ghost use Rattle.record_rules.specs.Stands.{counts_in};
@@ -8,13 +8,15 @@ ghost use Rattle.accept.specs.Opened.{snap_in};
 ghost use Rattle.hir_def.specs.Items.{parent_of};
 ghost use Rattle.hir_def.specs.Entries.{entry_of};
 ghost use Rattle.std.specs.Prelude.{Some};
+ghost use Rattle.snapshot.specs.PathKinds.{path_kind_number};
 ghost use Rattle.path_choices.specs.StepRules.{rule_number};
+ghost use Rattle.path_choices.specs.Given.{given};
 ghost use Rattle.find_path.specs.declared.FindPathCtx.{FindPathCtx};
 ghost use Rattle.find_path.specs.Conditions.{EntryFits};
 ghost use Rattle.find_path.specs.Rules.{prefix_path_kind, single as single_of, find_in_scope, may_be_in_scope, scope_rule, prelude_entry, find_in_prelude};
 ghost use Rattle.find_path.specs.Rules.{prelude_rule, extern_name, root_rule, parent_kind, is_kw_kind_relative_to_from, keyword_of, module_rules};
 
-use crate::choices::{StepRule, keyword, nothing, step_by};
+use crate::choices::{StepRule, keyword, step_by};
 use accept::opened::Snapshot;
 use crate_graph::{extern_of, prelude_of};
 use find_path::{Choice, FindPathCtx};
@@ -27,30 +29,27 @@ use snapshot::record::{extern_name, prelude_target, scope_name};
 
 // The path kind of a prefix.
 // Any number is a prefix here, as in `FindPathCtx`, and the definition gives that of a plain path to those past the third.
-fn prefix_path_kind(prefix: usize) -> usize
-    ensures { result ≡ prefix_path_kind prefix }
+fn prefix_path_kind(prefix: usize) -> PathKind
+    ensures { path_kind_number result ≡ prefix_path_kind prefix }
 {
     if prefix == Prefix::BySelf as usize {
-        return PathKind::SelfModule as usize;
+        return PathKind::SelfModule;
     }
     if prefix == Prefix::ByCrate as usize {
-        return PathKind::Crate as usize;
+        return PathKind::Crate;
     }
-    PathKind::Plain as usize
+    PathKind::Plain
 }
 
-// The single name of an entry, by a rule, or nothing.
-// `kind` is a number, as `Choice::new` takes it: a `PathKind` would be made that number here.
-fn single(db: &Snapshot, kind: usize, rule: StepRule, e: Option<usize>) -> Choice
+// The single name of an entry, by a rule.
+fn single(db: &Snapshot, kind: PathKind, rule: StepRule, e: Option<usize>) -> Option<Choice>
     requires { EntryFits db.now.records.words.now db.now.records.layout e }
-    ensures { (x : FindPathCtx) → result ≡ single_of (snap_in db.now) x kind (rule_number rule)
+    ensures { (x : FindPathCtx) → given result ≡ single_of (snap_in db.now) x (path_kind_number kind) (rule_number rule)
         (entry_of scope_at db.now.records.words.now e) }
 {
-    let Some(h) = e else {
-        return nothing();
-    };
+    let h = e?;
     let via = step_by(rule, h);
-    Choice::new(db, kind, scope_name(db.records.words, h), via)
+    Some(Choice::new(db, kind as usize, scope_name(db.records.words, h), via))
 }
 
 /// The item's entry in the viewing module, or around its blocks.
@@ -66,16 +65,16 @@ pub fn find_in_scope(db: &Snapshot, x: FindPathCtx, item: Item) -> Option<usize>
 pub fn may_be_in_scope(x: FindPathCtx) -> bool
     ensures { (s : lists.Snapshot) → result ≡ may_be_in_scope s x }
 {
-    (x.prefix != Prefix::ByCrate as usize) | (x.crate_root.0 == x.from.0)
+    (x.prefix != Prefix::ByCrate as usize) | (x.crate_root == x.from)
 }
 
 /// The item by its name in scope.
-pub fn scope_rule(db: &Snapshot, x: FindPathCtx, item: Item) -> Choice
+pub fn scope_rule(db: &Snapshot, x: FindPathCtx, item: Item) -> Option<Choice>
     requires { x.from.0 < db.now.records.layout.modules }
-    ensures { result ≡ scope_rule (snap_in db.now) x item }
+    ensures { given result ≡ scope_rule (snap_in db.now) x item }
 {
     if !may_be_in_scope(x) {
-        return nothing();
+        return None;
     }
     let e = find_in_scope(db, x, item);
     single(db, prefix_path_kind(x.prefix), StepRule::Scope, e)
@@ -114,114 +113,106 @@ pub fn find_in_prelude(db: &Snapshot, x: FindPathCtx, item: Item) -> Option<usiz
 }
 
 /// The item by its name in the prelude.
-pub fn prelude_rule(db: &Snapshot, x: FindPathCtx, item: Item) -> Choice
+pub fn prelude_rule(db: &Snapshot, x: FindPathCtx, item: Item) -> Option<Choice>
     requires { x.from.0 < db.now.records.layout.modules }
-    ensures { result ≡ prelude_rule (snap_in db.now) x item }
+    ensures { given result ≡ prelude_rule (snap_in db.now) x item }
 {
     let e = find_in_prelude(db, x, item);
-    single(db, PathKind::Plain as usize, StepRule::Prelude, e)
+    single(db, PathKind::Plain, StepRule::Prelude, e)
 }
 
 // The crate's root by its extern name, with `::` where the name is another thing's here.
-fn extern_rule(db: &Snapshot, x: FindPathCtx, m: ModuleId, e: Option<usize>) -> Choice
+fn extern_rule(db: &Snapshot, x: FindPathCtx, m: ModuleId, e: Option<usize>) -> Option<Choice>
     requires { (x.from.0 < db.now.records.layout.modules) × ((h : ℕ) → e ≡ Some h → ExternFits (counts_in db.now.records.layout) (extern_at db.now.records.words.now h)) }
-    ensures { result ≡ extern_name (snap_in db.now) x m.0 (entry_of extern_at db.now.records.words.now e) }
+    ensures { given result ≡ extern_name (snap_in db.now) x m.0 (entry_of extern_at db.now.records.words.now e) }
 {
-    let Some(h) = e else {
-        return nothing();
-    };
+    let h = e?;
     let via = step_by(StepRule::Extern, h);
     let name = extern_name(db.records.words, h);
     if occupied(db, x.from, m, name) | x.prefer_absolute {
-        return Choice::new(db, PathKind::Absolute as usize, name, via);
+        return Some(Choice::new(db, PathKind::Absolute as usize, name, via));
     }
-    Choice::new(db, PathKind::Plain as usize, name, via)
+    Some(Choice::new(db, PathKind::Plain as usize, name, via))
 }
 
 /// A crate's root: `crate` in the viewer's crate or where no extern may be used, else its extern name.
 // `maybe_extern: bool` is the parameter of the Rust's `find_path_for_module`.
-pub fn root_rule(db: &Snapshot, x: FindPathCtx, maybe_extern: bool, m: ModuleId) -> Choice
+pub fn root_rule(db: &Snapshot, x: FindPathCtx, maybe_extern: bool, m: ModuleId) -> Option<Choice>
     requires { (x.from.0 < db.now.records.layout.modules) × (m.0 < db.now.records.layout.modules) }
-    ensures { result ≡ root_rule (snap_in db.now) x maybe_extern m.0 }
+    ensures { given result ≡ root_rule (snap_in db.now) x maybe_extern m.0 }
 {
-    let top = crate_root(db, m);
-    if top.0 != m.0 {
-        return nothing();
+    if crate_root(db, m) != m {
+        return None;
     }
-    if !maybe_extern | (m.0 == x.crate_root.0) {
-        return keyword(PathKind::Crate as usize);
+    if !maybe_extern | (m == x.crate_root) {
+        return Some(keyword(PathKind::Crate as usize));
     }
     let e = extern_of(&db.records, x.from_crate, m);
     extern_rule(db, x, m, e)
 }
 
 // The module as the parent of the viewer's.
-// Answers the number of the kind: `keyword` takes it, and the definition answers one. So in the next.
-fn parent_kind(db: &Snapshot, x: FindPathCtx, m: ModuleId) -> Option<usize>
+fn parent_kind(db: &Snapshot, x: FindPathCtx, m: ModuleId) -> Option<PathKind>
     requires { (x.from.0 < db.now.records.layout.modules) × (m.0 < db.now.records.layout.modules) }
-    ensures { result ≡ parent_kind (snap_in db.now) x m.0
+    ensures { option_map path_kind_number result ≡ parent_kind (snap_in db.now) x m.0
         (parent_of (snap_in db.now) x.from.0) }
 {
-    let p = parent(db, x.from)?;
-    if p.0 != m.0 {
+    if parent(db, x.from)? != m {
         return None;
     }
-    let top = root(db, map(db, x.from));
-    if m.0 == top.0 {
-        return Some(PathKind::Crate as usize);
+    if m == root(db, map(db, x.from)) {
+        return Some(PathKind::Crate);
     }
-    Some(PathKind::Super as usize)
+    Some(PathKind::Super)
 }
 
 /// The viewer's own module, or its parent, where neither is in a block.
-pub fn is_kw_kind_relative_to_from(db: &Snapshot, x: FindPathCtx, m: ModuleId) -> Option<usize>
+pub fn is_kw_kind_relative_to_from(db: &Snapshot, x: FindPathCtx, m: ModuleId) -> Option<PathKind>
     requires { (x.from.0 < db.now.records.layout.modules) × (m.0 < db.now.records.layout.modules) }
-    ensures { result ≡ is_kw_kind_relative_to_from (snap_in db.now) x m.0 }
+    ensures { option_map path_kind_number result ≡ is_kw_kind_relative_to_from (snap_in db.now) x m.0 }
 {
-    let there = krate(db, m);
-    let here = krate(db, x.from);
     let block = in_block(db, m) | in_block(db, x.from);
-    if (there.0 != here.0) | block {
+    if (krate(db, m) != krate(db, x.from)) | block {
         return None;
     }
-    if m.0 == x.from.0 {
-        return Some(PathKind::SelfModule as usize);
+    if m == x.from {
+        return Some(PathKind::SelfModule);
     }
     parent_kind(db, x, m)
 }
 
 /// The module by a keyword; ByCrate takes none but `crate`.
-pub fn keyword_rule(db: &Snapshot, x: FindPathCtx, m: ModuleId) -> Choice
+pub fn keyword_rule(db: &Snapshot, x: FindPathCtx, m: ModuleId) -> Option<Choice>
     requires { (x.from.0 < db.now.records.layout.modules) × (m.0 < db.now.records.layout.modules) }
-    ensures { result ≡ keyword_of (snap_in db.now) x
+    ensures { given result ≡ keyword_of (snap_in db.now) x
         (is_kw_kind_relative_to_from (snap_in db.now) x m.0) }
 {
-    let k = is_kw_kind_relative_to_from(db, x, m);
-    let Some(kind) = k else {
-        return nothing();
-    };
-    if (x.prefix != Prefix::ByCrate as usize) | (kind == PathKind::Crate as usize) {
-        return keyword(kind);
+    let kind = is_kw_kind_relative_to_from(db, x, m)?;
+    if (x.prefix != Prefix::ByCrate as usize) | (kind == PathKind::Crate) {
+        return Some(keyword(kind as usize));
     }
-    nothing()
+    None
 }
 
 /// The first of root, extern, scope, keyword and prelude that has a path to the module.
-pub fn module_rules(db: &Snapshot, x: FindPathCtx, maybe_extern: bool, m: ModuleId) -> Choice
+pub fn module_rules(
+    db: &Snapshot,
+    x: FindPathCtx,
+    maybe_extern: bool,
+    m: ModuleId,
+) -> Option<Choice>
     requires { (x.from.0 < db.now.records.layout.modules) × (m.0 < db.now.records.layout.modules) }
-    ensures { result ≡ module_rules (snap_in db.now) x maybe_extern m.0 }
+    ensures { given result ≡ module_rules (snap_in db.now) x maybe_extern m.0 }
 {
-    let first = root_rule(db, x, maybe_extern, m);
-    if first.found {
-        return first;
+    // Early returns, as in the Rust.
+    if let Some(c) = root_rule(db, x, maybe_extern, m) {
+        return Some(c);
     }
-    let second = scope_rule(db, x, Item::Mod(m));
-    if second.found {
-        return second;
+    if let Some(c) = scope_rule(db, x, Item::Mod(m)) {
+        return Some(c);
     }
-    let third = keyword_rule(db, x, m);
-    if third.found {
-        return third;
+    if let Some(c) = keyword_rule(db, x, m) {
+        return Some(c);
     }
     prelude_rule(db, x, Item::Mod(m))
 }

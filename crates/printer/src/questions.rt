@@ -51,6 +51,7 @@ fn is_head(kind: usize) -> bool
 }
 
 /// The place of the first head of a question, or the number of words.
+// `questions_at` answers that number for none: by `find` over the range, the `None` would be turned into it.
 pub fn first_question(words: &[u32]) -> usize
     ensures { (result ≡ questions_at words.now) × (result ≤ length words.now) }
 {

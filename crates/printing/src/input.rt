@@ -13,17 +13,15 @@ impl ByteCount {
     pub const INPUT: usize = 4 * WordCount::SNAPSHOT;
 }
 
-fn wide(x: u8) -> u32
-    ensures { result ≡ x }
-{
-    x as u32
-}
-
 // The byte at a place; past the end it reads as 0.
 fn byte(bytes: &[u8], i: usize) -> u32
     ensures { (result ≡ get_or bytes.now i 0) × (result < 256) }
 {
-    if i < bytes.len() { wide(bytes[i]) } else { 0 }
+    if i < bytes.len() {
+        u32::from(bytes[i])
+    } else {
+        0
+    }
 }
 
 /// The word whose four bytes begin at a place, the lowest first.

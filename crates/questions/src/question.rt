@@ -7,6 +7,7 @@ use snapshot::ids::{DefinitionId, ModuleId};
 use snapshot::words::word;
 
 /// The question whose fields the words are.
+// No `From`: more words may follow, as in a batch, and a word that is missing is 0.
 pub fn question_of(words: &[u32]) -> Question
     ensures { result ≡ question_of words.now }
 {

@@ -28,9 +28,8 @@ use Rattle.search_laws.proofs.Bounds.{zeros}
 use Rattle.search_laws.proofs.Tables.{same_snap}
 use Rattle.checked.proofs.Laws.{judged_stays}
 use Rattle.reach_parts.specs.declared.Viewer.{Viewer}
-use Rattle.reach_parts.specs.declared.Reach.{Reach}
 use Rattle.reach_parts.specs.Within.{Within}
-use Rattle.reach_parts.specs.Reach.{is_met, new_from, distinct, report_for, tallied, tallied_reach, tally_all, reach_in, refused_reach, reach_by, reach_unless}
+use Rattle.reach_parts.specs.Reach.{Reach, is_met, new_from, distinct, report_for, tallied, tallied_reach, tally_all, reach_in, refused_reach, reach_by, reach_unless}
 use Rattle.reach_parts.specs.Reach.{reach_of, query_for}
 use Rattle.reach_parts.proofs.Laws.{Limited, report_few, report_flag, tallied_long, tallied_within}
 
@@ -58,14 +57,13 @@ module _ (s : Snapshot) (before : List Scope) (e : Scope) (es : List Scope) wher
   new_next t = rw (new_from, t)
 
 -- before the record numbered k: what is left to tally leads to the reach of the snapshot at first
-pub record Reaching (W A₀ : List ℕ) (l : Layout) (v : Viewer) (A : List ℕ) (reach : Reach) (k : ℕ) : Type 0 where
+pub record Reaching (W A₀ : List ℕ) (l : Layout) (v : Viewer) (A t : List ℕ) (k : ℕ) : Type 0 where
   pub below : k ≤ l.scopes
   pub tables : take table_words A ≡ take table_words A₀
   pub size : length A ≡ length A₀
-  pub number : reach.number ≡ 0
-  pub long : length reach.counts ≡ 21
-  pub within : Within (1 + 17 * k) reach.counts
-  pub same : tally_all reach.counts
+  pub long : length t ≡ 21
+  pub within : Within (1 + 17 * k) t
+  pub same : tally_all t
       (map (report_for (snap_of W A₀ l) v) (new_from (snap_of W A₀ l) (rows (entry W l) 0 k) (rows (entry W l) k (l.scopes - k))))
       ≡ reach_in (snap_of W A₀ l) v
 
@@ -77,21 +75,19 @@ module _ (W A₀ : List ℕ) (l : Layout) (v : Viewer) where
   counted : List ℕ → List Scope → List ℕ
   counted t es = tally_all t (map (report_for first v) es)
 
-  pub reaching_start : (r : Reach) → r ≡ refused_reach 0 → Reaching W A₀ l v A₀ r 0
-  unfolding refused_reach reach_in distinct rows counted
-  reaching_start r e =
-      subst (λ x. Reaching W A₀ l v A₀ x 0) (sym e)
-      (record {
+  pub reaching_start : Reaching W A₀ l v A₀ (replicate 21 0) 0
+  unfolding reach_in distinct rows counted
+  reaching_start =
+      record {
         below = omega arith;
         tables = refl;
         size = refl;
-        number = refl;
         long = refl;
         within = λ i. omega (arith, zeros 21 i);
         same = ap (λ n. counted (replicate 21 0) (new_from first [] (rows (entry W l) 0 n))) (sub-zero l.scopes);
-      })
+      }
 
-  module _ (A : List ℕ) (reach : Reach) (k : ℕ) (i : Reaching W A₀ l v A reach k) (h : k < l.scopes) where
+  module _ (A t : List ℕ) (k : ℕ) (i : Reaching W A₀ l v A t k) (h : k < l.scopes) where
     rest : List Scope
     rest = rows (entry W l) (k + 1) (l.scopes - (k + 1))
 
@@ -103,49 +99,43 @@ module _ (W A₀ : List ℕ) (l : Layout) (v : Viewer) where
     further = ap (λ b. new_from first b rest) (sym (rows_snoc (entry W l) k))
 
     -- an item that was met
-    pub reaching_met : true ≡ is_met first (rows (entry W l) 0 k) (entry W l k) → Reaching W A₀ l v A reach (k + 1)
+    pub reaching_met : true ≡ is_met first (rows (entry W l) 0 k) (entry W l k) → Reaching W A₀ l v A t (k + 1)
     unfolding counted rest
-    reaching_met t =
+    reaching_met m =
         record {
           below = omega arith;
           tables = i.tables;
           size = i.size;
-          number = i.number;
           long = i.long;
           within = λ j. omega (arith, i.within j);
-          same = sym (ap (counted reach.counts) (begins ∙ met_next first (rows (entry W l) 0 k) (entry W l k) rest (sym t) ∙ further)) ∙ i.same;
+          same = sym (ap (counted t) (begins ∙ met_next first (rows (entry W l) 0 k) (entry W l k) rest (sym m) ∙ further)) ∙ i.same;
         }
 
     -- a new one, whose report is tallied
     pub reaching_new : false ≡ is_met first (rows (entry W l) 0 k) (entry W l k) → Limited v → Reads W A₀ l → (B : List ℕ) (r : Report)
         → take table_words B ≡ take table_words A → length B ≡ length A → r ≡ report_for (snap_of W A l) v (entry W l k)
-        → (new : Reach) → new ≡ tallied_reach reach r → Reaching W A₀ l v B new (k + 1)
+        → (new : List ℕ) → record { number = 0; counts = new } ≡ tallied_reach (record { number = 0; counts = t }) r → Reaching W A₀ l v B new (k + 1)
     unfolding counted rest tallied_reach tally_all
-    reaching_new t m reads B r kept size e new eq =
+    reaching_new f m reads B r kept size e new eq =
         let q : r ≡ report_for first v (entry W l k) = e ∙ ap (λ s. report_for s v (entry W l k)) (same_snap W A₀ A l i.tables reads) in
         let few : r.count ≤ 16 = rw q (report_few first v (entry W l k) m) in
         let flag : r.empty ≤ 1 = rw q (report_flag first v (entry W l k)) in
-        subst (λ x. Reaching W A₀ l v B x (k + 1)) (sym eq)
+        subst (λ x. Reaching W A₀ l v B x.counts (k + 1)) (sym eq)
         (record {
           below = omega arith;
           tables = kept ∙ i.tables;
           size = size ∙ i.size;
-          number = i.number;
-          long = tallied_long reach.counts r i.long few flag;
-          within = λ j. omega (arith, tallied_within reach.counts r i.long few flag (1 + 17 * k) i.within j);
-          same = ap (λ x. counted (tallied reach.counts x) (new_from first (rows (entry W l) 0 (k + 1)) rest)) q
-              ∙ sym (ap (counted reach.counts) (begins ∙ new_next first (rows (entry W l) 0 k) (entry W l k) rest (sym t)
+          long = tallied_long t r i.long few flag;
+          within = λ j. omega (arith, tallied_within t r i.long few flag (1 + 17 * k) i.within j);
+          same = ap (λ x. counted (tallied t x) (new_from first (rows (entry W l) 0 (k + 1)) rest)) q
+              ∙ sym (ap (counted t) (begins ∙ new_next first (rows (entry W l) 0 k) (entry W l k) rest (sym f)
               ∙ ap (λ x. entry W l k ∷ x) further)) ∙ i.same;
         })
 
-  pub reaching_done : (A : List ℕ) (reach : Reach) (k : ℕ) → Reaching W A₀ l v A reach k → l.scopes ≤ k
-      → (reach.number ≡ 0) × (reach.counts ≡ reach_in first v)
+  pub reaching_done : (A t : List ℕ) (k : ℕ) → Reaching W A₀ l v A t k → l.scopes ≤ k → t ≡ reach_in first v
   unfolding new_from tally_all counted
-  reaching_done A reach k i h = (
-    i.number,
-    sym (ap (λ es. counted reach.counts (new_from first (rows (entry W l) 0 k) es)) (rows_none (entry W l) k l.scopes h))
-        ∙ i.same,
-  )
+  reaching_done A t k i h =
+      sym (ap (λ es. counted t (new_from first (rows (entry W l) 0 k) es)) (rows_none (entry W l) k l.scopes h)) ∙ i.same
 
 -- refusals, and the reach on accepted words
 

@@ -10,7 +10,7 @@ ghost use Rattle.reach_parts.specs.Reach.{report_for, reach_in};
 use checked::found::report_in;
 use find_path::{Query, Report};
 use reach_parts::firsts::is_met;
-use reach_parts::tally::{refused, tally};
+use reach_parts::tally::tally;
 use reach_parts::{Reach, Viewer};
 use snapshot::ids::Area;
 use snapshot::kind::Size;
@@ -39,13 +39,15 @@ fn report_for(records: &Records, area: &mut Area, v: Viewer, h: usize) -> Report
 }
 
 /// The counts of the reports for all distinct items; the tables stay.
+// `base + Size::SCOPE * k` as in a `Span`: a method for it would be this sum under a name.
 pub fn reach_in(records: &Records, area: &mut Area, v: Viewer) -> Reach
     requires { Reads records.now.words.now area.old records.now.layout × (v.from.0 < records.now.layout.modules) × (v.fuel ≤ fuel_limit) × (0 < v.limit) × (v.limit ≤ path_limit) }
-    ensures number_value { (result.number ≡ 0) × (result.counts ≡ reach_in (snap_by records.now area.old) v) }
+    ensures value { result.counts ≡ reach_in (snap_by records.now area.old) v }
     ensures area_unchanged { take table_words area.new ≡ take table_words area.old }
 {
     let base = records.layout.scope_base();
-    let mut reach = refused(0);
+    let counts = [0usize; 21];
+    let mut reach = Reach { counts };
     for k in 0..records.layout.scopes {
         if !is_met(records, k) {
             let r = report_for(records, area, v, base + Size::SCOPE * k);

@@ -1,22 +1,22 @@
 //! The reach of a module on words that were checked.
-ghost use Rattle.std.specs.Prelude.{◌≡◌, length};
+ghost use Rattle.std.specs.Prelude.{length};
 ghost use Rattle.snapshot.specs.Limits.{area_limit};
 ghost use Rattle.accept.specs.Post.{Judged};
-ghost use Rattle.reach.specs.Reached.{Reached, told};
+ghost use Rattle.reach_parts.specs.Reach.{told};
+ghost use Rattle.reach.specs.Reached.{Reached};
 
 use crate::counts::reach_in;
 use accept::check::Refused;
 use checked::faults::call_fault;
 use find_path::Query;
-use reach_parts::tally::refused;
 use reach_parts::{Reach, Viewer};
 use snapshot::ids::{Area, DefinitionId};
 use snapshot::layout::Layout;
 use snapshot::records::Records;
 use snapshot::refusal::Refusal;
 
-// The counts of what the searches found, or why the module is refused.
-fn counted(
+/// The reach of a module on checked words, which stay so, or why it is refused.
+pub fn reach_on(
     words: &[u32],
     area: &mut Area,
     c: Result<Layout, Refused>,
@@ -40,12 +40,4 @@ fn counted(
         return Err(Refusal::Unknown);
     }
     Ok(reach_in(&Records { words, layout }, area, v))
-}
-
-/// The reach of a module on checked words, which stay so.
-pub fn reach_on(words: &[u32], area: &mut Area, c: Result<Layout, Refused>, v: Viewer) -> Reach
-    requires { Judged words.now area.old c }
-    ensures { Reached words.now v c area.new result }
-{
-    counted(words, area, c, v).unwrap_or_else(|why| refused(why.number()))
 }

@@ -7,8 +7,7 @@ use lib.ListN.{length, drop}
 use Rattle.snapshot.specs.Limits.{area_limit}
 use Rattle.snapshot.specs.Refusals.{area_refusal}
 use Rattle.reach_parts.specs.declared.Viewer.{Viewer}
-use Rattle.reach_parts.specs.declared.Reach.{Reach}
-use Rattle.reach_parts.specs.Reach.{query_for, refused_reach, reach_unless, reach_of}
+use Rattle.reach_parts.specs.Reach.{Reach, query_for, refused_reach, reach_unless, reach_of}
 use Rattle.checked.proofs.Laws.{small, same_fault}
 use Rattle.answer.specs.Answers.{zeros}
 use Rattle.answer.proofs.Areas.{area_small, area_large}

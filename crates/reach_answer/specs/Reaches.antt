@@ -1,8 +1,7 @@
 -- What the entry point for a module's reach promises.
 use Rattle.std.specs.Prelude.{◌≡◌, List, ℕ, length}
 use Rattle.reach_parts.specs.declared.Viewer.{Viewer}
-use Rattle.reach_parts.specs.declared.Reach.{Reach}
-use Rattle.reach_parts.specs.Reach.{reach_of}
+use Rattle.reach_parts.specs.Reach.{Reach, reach_of}
 use Rattle.answer.specs.Answers.{area_after}
 
 -- W are the words, A₀ the work area before the call, A the one after it

@@ -4,21 +4,20 @@
 ghost use Rattle.std.specs.Prelude.{◌≡◌, length};
 ghost use Rattle.snapshot.specs.Limits.{area_limit};
 ghost use Rattle.answer.specs.Answers.{zeros};
-ghost use Rattle.reach_parts.specs.Reach.{reach_of};
+ghost use Rattle.reach_parts.specs.Reach.{reach_of, told};
 ghost use Rattle.reach_answer.specs.Reaches.{Reaches};
 
 use accept::check::check;
 use answer::area::clear;
 use reach::reach::reach_on;
-use reach_parts::tally::refused;
 use reach_parts::{Reach, Viewer};
 use snapshot::ids::Area;
 use snapshot::refusal::Refusal;
 
 // The reach, in a work area that serves and is cleared.
-// As in `answer`, but `reach_on` answers a `Reach`: a generic of report and closure would be no shorter.
-fn reach_within(words: &[u32], area: &mut Area, v: Viewer) -> Reach
-    ensures value { result ≡ reach_of words.now area_limit v }
+// As in `answer`, but of a reach: a generic of report and closure would be no shorter.
+fn reach_within(words: &[u32], area: &mut Area, v: Viewer) -> Result<Reach, Refusal>
+    ensures value { told result ≡ reach_of words.now area_limit v }
     ensures area_after { area.new ≡ zeros area_limit }
 {
     let c = check(words, area);
@@ -27,12 +26,12 @@ fn reach_within(words: &[u32], area: &mut Area, v: Viewer) -> Reach
     r
 }
 
-/// The reach of a module on the words of a snapshot. The work area is left as `find_path` leaves it.
-pub fn find_reach(words: &[u32], area: &mut [u32], v: Viewer) -> Reach
-    ensures { Reaches words.now area.old v area.new result }
+/// The reach of a module on the words of a snapshot, or why it is refused. The work area is left as `find_path` leaves it.
+pub fn find_reach(words: &[u32], area: &mut [u32], v: Viewer) -> Result<Reach, Refusal>
+    ensures { Reaches words.now area.old v area.new (told result) }
 {
     let Some(front) = area.first_chunk_mut() else {
-        return refused(Refusal::Area.number());
+        return Err(Refusal::Area);
     };
     reach_within(words, front, v)
 }

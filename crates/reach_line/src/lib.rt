@@ -6,12 +6,13 @@ ghost use Rattle.std.specs.Prelude.{map, ◌++◌, ◌*◌, ◌≤◌, ◌<◌, 
 ghost use Rattle.snapshot.specs.Limits.{line_limit};
 ghost use Rattle.printing.specs.Output.{Put};
 ghost use Rattle.find_path.specs.Line.{bytes_of, decimal, joined};
-ghost use Rattle.reach_parts.specs.Reach.{reach_line};
+ghost use Rattle.reach_parts.specs.Reach.{reach_line, told};
 
 use line::line::put_refusal;
 use line::text::put_number;
 use printing::output::put;
 use reach_parts::Reach;
+use snapshot::refusal::Refusal;
 
 // Puts numbers at the front, with a blank between them.
 fn put_numbers(out: &mut [u8], numbers: &[usize]) -> usize
@@ -28,14 +29,16 @@ fn put_numbers(out: &mut [u8], numbers: &[usize]) -> usize
 }
 
 /// Puts the line of a reach and its end at the front, and answers its length.
-pub fn put_reach(out: &mut [u8], r: Reach) -> usize
+pub fn put_reach(out: &mut [u8], r: Result<Reach, Refusal>) -> usize
     requires { line_limit ≤ length out.old }
-    ensures { Put out.old 0 (reach_line r ++ bytes_of "\n") out.new result }
+    ensures { Put out.old 0 (reach_line (told r) ++ bytes_of "\n") out.new result }
 {
-    if r.number != 0 {
-        return put_refusal(out, r.number);
+    match r {
+        Ok(reach) => {
+            let counts = reach.counts;
+            let a = put_numbers(out, &counts);
+            put(out, a, b"\n")
+        }
+        Err(why) => put_refusal(out, why.number()),
     }
-    let counts = r.counts;
-    let a = put_numbers(out, &counts);
-    put(out, a, b"\n")
 }

@@ -27,7 +27,6 @@ use Rattle.search_laws.proofs.Bounds.{search_fits}
 use Rattle.search_laws.proofs.Refusals.{call_allowed}
 use Rattle.search_laws.proofs.Outcomes.{flag_small}
 use Rattle.reach_parts.specs.declared.Viewer.{Viewer}
-use Rattle.reach_parts.specs.declared.Reach.{Reach}
 use Rattle.reach_parts.specs.Reach.{item_in, distinct, query_for, refused_reach, reach_by, reach_unless, reach_of, report_for, column, names_found}
 use Rattle.reach_parts.specs.Reach.{added, tallied, tallied_reach, tally_all, reach_in, sum, total}
 use Rattle.reach_parts.specs.Within.{Within}
@@ -124,20 +123,12 @@ module _ (t : List ℕ) (r : Report) (long : length t ≡ 21) (few : r.count ≤
       ∙ sum_added 20 t (column r) 1 (omega (arith, column_small r few flag)) (omega (arith, long, column_small r few flag))
 
 -- what the code adds: in the column and the names that it found
-pub tallied_by : (t : Reach) (r : Report) {i n : ℕ} → i ≡ column r → n ≡ names_found r
-    → record {
-      number = t.number;
-      counts = set (set t.counts i (get_or t.counts i 0 + 1)) 20
-          (get_or (set t.counts i (get_or t.counts i 0 + 1)) 20 0 + n);
-    }
-    ≡ tallied_reach t r
+pub tallied_by : (t : List ℕ) (r : Report) {i n : ℕ} → i ≡ column r → n ≡ names_found r
+    → record { number = 0; counts = set (set t i (get_or t i 0 + 1)) 20 (get_or (set t i (get_or t i 0 + 1)) 20 0 + n) }
+    ≡ tallied_reach (record { number = 0; counts = t }) r
 unfolding tallied_reach tallied added
 tallied_by t r e f =
-    ap₂ (λ i n. record {
-      number = t.number;
-      counts = set (set t.counts i (get_or t.counts i 0 + 1)) 20
-          (get_or (set t.counts i (get_or t.counts i 0 + 1)) 20 0 + n);
-    }) e f
+    ap₂ (λ i n. record { number = 0; counts = set (set t i (get_or t i 0 + 1)) 20 (get_or (set t i (get_or t i 0 + 1)) 20 0 + n) }) e f
 
 pub last_fits : (t : List ℕ) (i n b : ℕ) → i < 20 → Within b t → n ≤ 16 → get_or (set t i (get_or t i 0 + 1)) 20 0 + n < b + 16
 last_fits t i n b h w f = let p = get_or-set_other t i 20 (get_or t i 0 + 1) 0 (omega arith) in omega (arith, w 20)

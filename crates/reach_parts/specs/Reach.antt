@@ -1,7 +1,9 @@
 -- How much of a workspace can be named from one module: a search for each distinct item among the scope records, and what they found.
 use Rattle.std.specs.Prelude.{ℕ, zero, suc, ◌+◌, List, [], ◌∷◌, ◌++◌, map, Bool, true, false, eqb, ltb, length, take, get_or, replicate, set}
+use Rattle.std.specs.Prelude.{Result, Ok, Err}
 use Rattle.snapshot.specs.Lists.{any}
-use Rattle.snapshot.specs.Refusals.{unknown_refusal}
+use Rattle.snapshot.specs.Refusals.{unknown_refusal, refusal_number}
+use Rattle.snapshot.specs.declared.refusal.Refusal.{Refusal}
 use Rattle.snapshot.specs.Records.{Snapshot, Scope}
 use Rattle.check_rules.specs.Verdict.{Verdict, refuse, accept, verdict, empty}
 use Rattle.hir_def.specs.Items.{item_of, same_item}
@@ -11,7 +13,12 @@ use Rattle.find_path.specs.declared.Report.{Report}
 use Rattle.find_path.specs.Report.{call_fault, refused, reported, searched}
 use Rattle.find_path.specs.Line.{bytes_of, decimal, joined, line_in}
 use Rattle.reach_parts.specs.declared.Viewer.{Viewer}
-use Rattle.reach_parts.specs.declared.Reach.{Reach}
+use Rattle.reach_parts.specs.declared.Reach.{Reach as ReachCounts}
+
+-- what is told of a reach: the number by which it is refused, 0 for none, and its counts
+pub record Reach : Type 0 where
+  pub number : ℕ
+  pub counts : List ℕ
 
 -- the item of a scope record
 abbrev pub item_in : Snapshot → Scope → Item
@@ -77,6 +84,11 @@ total t = sum (take 20 t)
 -- a refusal: all counts are zero
 unfoldable pub refused_reach : ℕ → Reach
 refused_reach n = record { number = n; counts = replicate 21 0 }
+
+-- what is told of the counts, or of a refusal
+abbrev pub told : Result ReachCounts Refusal → Reach
+told (Ok r) = record { number = 0; counts = r.counts }
+told (Err k) = refused_reach (refusal_number k)
 
 -- 23 no such module
 unfoldable pub reach_by : Viewer → Verdict → Reach

@@ -4,24 +4,11 @@ ghost use Rattle.snapshot.specs.Sizes.{scope_size};
 ghost use Rattle.snapshot.specs.Records.{scope_at};
 ghost use Rattle.snapshot.specs.Layouts.{scope_base, records_of};
 ghost use Rattle.snapshot.specs.Laid.{snap_by};
-ghost use Rattle.reach_parts.specs.Reach.{item_in, is_met};
+ghost use Rattle.reach_parts.specs.Reach.{is_met};
 
-use hir_def::Item;
-use hir_def::items::{item_of, same_item};
+use hir_def::items::item_at;
 use snapshot::kind::Size;
-use snapshot::record::{scope_definition, scope_ns};
 use snapshot::records::Records;
-
-// The item of the scope record with its head at a place.
-fn item_in(records: &Records, h: usize) -> Item
-    ensures { (A : List ℕ) → result ≡ item_in (snap_by records.now A) (scope_at records.now.words.now h) }
-{
-    item_of(
-        records,
-        scope_ns(records.words, h),
-        scope_definition(records.words, h),
-    )
-}
 
 /// Whether a scope record before the one numbered k is for the same item.
 pub fn is_met(records: &Records, k: usize) -> bool
@@ -29,10 +16,11 @@ pub fn is_met(records: &Records, k: usize) -> bool
     ensures { (A : List ℕ) → result ≡ is_met (snap_by records.now A) (records_of scope_at scope_size records.now.words.now (scope_base records.now.layout) k)
         (scope_at records.now.words.now (scope_base records.now.layout + scope_size * k)) }
 {
+    // `base + size * k` as in a `Span`: a method for it would be this sum under a name.
     let base = records.layout.scope_base();
-    let item = item_in(records, base + Size::SCOPE * k);
+    let item = item_at(records, base + Size::SCOPE * k);
     for j in 0..k {
-        if same_item(item_in(records, base + Size::SCOPE * j), item) {
+        if item_at(records, base + Size::SCOPE * j) == item {
             return true;
         }
     }

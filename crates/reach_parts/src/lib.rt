@@ -3,6 +3,7 @@
 
 pub mod firsts;
 pub mod tally;
+pub mod tell;
 
 use snapshot::ids::ModuleId;
 
@@ -16,12 +17,10 @@ pub struct Viewer {
     pub limit: usize,
 }
 
-// The number by which a question is refused, or 0; the counts of found paths by number of names, 0 to 16, of misleading ones, of
-// none with a full enough tank, of none with an empty one, and the names of all found paths together.
+// The counts of found paths by number of names, 0 to 16, of misleading ones, of none with a full enough tank, of none with an
+// empty one, and the names of all found paths together.
 // All 21 counts are used, and C gets them in this order: an array and no list.
-// A number and no `Result`: number and counts are what C gets and the line is of, and what the definition `reach_of` is.
 #[derive(Clone, Copy)]
 pub struct Reach {
-    pub number: usize,
     pub counts: [usize; 21],
 }

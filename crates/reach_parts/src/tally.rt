@@ -1,6 +1,7 @@
 //! The tally of reports.
 ghost use Rattle.std.specs.Prelude.{◌≡◌, ◌^◌, ◌≤◌};
-ghost use Rattle.reach_parts.specs.Reach.{column as column_of, names_found, tallied_reach, refused_reach};
+ghost use Rattle.std.specs.Prelude.{Ok};
+ghost use Rattle.reach_parts.specs.Reach.{column as column_of, names_found, tallied_reach, told};
 ghost use Rattle.reach_parts.specs.Within.{Within};
 
 use crate::Reach;
@@ -33,24 +34,12 @@ fn names_found(r: Report) -> usize
 /// One more in the column of the report, and its names in the last.
 pub fn tally(reach: Reach, r: Report) -> Reach
     requires { (r.count ≤ 16) × (r.empty ≤ 1) × Within (2 ^ 32) reach.counts }
-    ensures { result ≡ tallied_reach reach r }
+    ensures { told (Ok result) ≡ tallied_reach (told (Ok reach)) r }
 {
     let at = column(r);
     let names = names_found(r);
     let mut counts = reach.counts;
     counts[at] += 1;
     counts[20] += names;
-    Reach {
-        number: reach.number,
-        counts: counts,
-    }
-}
-
-/// A refusal.
-// A number, since a reach is words for C; 0 stands in a blank one.
-pub fn refused(number: usize) -> Reach
-    ensures { result ≡ refused_reach number }
-{
-    let counts = [0usize; 21];
-    Reach { number, counts }
+    Reach { counts }
 }

@@ -1,17 +1,20 @@
 -- Each case of a name.
-use Prim.Native.Nat.{ℕ, suc, ◌+◌, ◌-◌, ◌<◌, ◌≤◌}
-use mathlib.Core.Path.{◌≡◌, sym, ap, ◌∙◌}
+use Prim.Native.Nat.{ℕ, zero, suc, ◌+◌, ◌-◌, ◌<◌, ◌≤◌}
+use mathlib.Core.Path.{◌≡◌, refl, sym, ap, ◌∙◌}
 use mathlib.Core.List.{List, ◌∷◌}
 use mathlib.Core.Bool.{Bool, true, false}
-use Rattle.std.specs.Prelude.{Option, None, Some}
+use Rattle.std.specs.Prelude.{Option, None, Some, MatchOption}
+use Rattle.std.proofs.lemmas.Option.{MatchOption-at_some, MatchOption-at_none}
 use native.Mathlib.Omega.{arith}
-use borrow.Author.Tests.{eq-eqb, ne_eqb, eqb-true, eqb-false, lt-ltb, le-ltb}
-use lib.Dec.{eqb}
+use borrow.Author.Tests.{eq-eqb, ne_eqb, lt-ltb, le-ltb}
 use lib.ListN.{length, get_or, take}
 use Rattle.snapshot.specs.Lists.{rows}
+use Rattle.snapshot.specs.PathKinds.{path_kind_of}
+use Rattle.snapshot.specs.declared.ids.PathKind.{PathKind}
+use Rattle.snapshot.specs.declared.ids.PathKind.TheVariants.{Plain, SelfModule, Super, Crate, Absolute}
+use Rattle.std.proofs.lemmas.List.{take_all}
 use Rattle.snapshot.specs.Records.{Snapshot, Scope, Prelude, Extern, Member}
 use Rattle.snapshot.proofs.Laws.{rows_next, rows_none, rows_part, rows_ext}
-use Rattle.accept.proofs.Accepted.{by_test}
 use Rattle.tree_rules.specs.Modules.{map_no, crate_of, parent_of, crate_root}
 use Rattle.tree_rules.specs.Visibility.{sees}
 use Rattle.hir_def.specs.Finds.{or_first}
@@ -86,6 +89,11 @@ module _ (s : Snapshot) (from : ℕ) where
     unfolding first_name or_first entry_or
     first_prelude q w e = rw (first_name, q, w) e
 
+    pub first_outer : (o r : Option Item) {P : Type 0} → MatchOption o P (λ x. r ≡ Some x) → entry_from s from ns name ≡ None
+        → o ≡ in_externs s from ns name → (P → r ≡ in_prelude_of s from ns name) → r ≡ first_name s from ns name
+    first_outer None r {P} m q w f = first_prelude q (sym w) (f (MatchOption-at_none P (λ x. r ≡ Some x) refl m))
+    first_outer (Some x) r {P} m q w f = MatchOption-at_some P (λ y. r ≡ Some y) x refl m ∙ first_extern q (sym w)
+
 -- a variant
 module _ (s : Snapshot) (ns : ℕ) where
   pub variant_none : {o : Option Member} → o ≡ None → None ≡ variant_in s ns o
@@ -157,36 +165,40 @@ names_list names n h =
 pub names_first : (names : List ℕ) (n : ℕ) → n ≤ length names → 0 < n → take n names ≡ get_or names 0 0 ∷ rows (λ i. get_or names i 0) 1 (n - 1)
 names_first names n h p = sym (names_list names n h) ∙ rows_next (λ i. get_or names i 0) 0 n p
 
--- a path that begins with a keyword
-module _ (s : Snapshot) (from ns kind : ℕ) (names : List ℕ) (n : ℕ) (h : n ≤ length names) {o : Option Item} (here : Option Item)
-    (e : o ≡ follow s from ns here (rows (λ i. get_or names i 0) 0 (n - 0))) where
-  all_later : o ≡ follow s from ns here (take n names)
-  all_later = e ∙ ap (follow s from ns here) (names_list names n h)
+-- all the names after what was reached
+pub all_later : (s : Snapshot) (from ns : ℕ) (names : List ℕ) (here : Option Item) {o : Option Item}
+    → o ≡ follow s from ns here (rows (λ i. get_or names i 0) 0 (length names - 0)) → o ≡ follow s from ns here names
+all_later s from ns names here e =
+    e ∙ ap (follow s from ns here) (names_list names (length names) (omega arith) ∙ take_all _ names (omega arith))
 
-  pub reads_self : kind ≡ 1 → here ≡ Some (module_item (stands_for s from)) → o ≡ reads_to s from ns kind (take n names)
-  unfolding reads_to
-  reads_self t u = rw (reads_to, eq-eqb _ _ t) (all_later ∙ ap (λ x. follow s from ns x (take n names)) u)
+-- what a path of that kind means; a number that is no kind is read as plain
+abbrev pub reads_as : Snapshot → ℕ → ℕ → List ℕ → Option PathKind → Option Item
+reads_as s from ns names (Some SelfModule) = follow s from ns (Some (module_item (stands_for s from))) names
+reads_as s from ns names (Some Super) = follow s from ns (parent_means s (parent_of s (stands_for s from))) names
+reads_as s from ns names (Some Crate) = follow s from ns (Some (module_item (crate_root s from))) names
+reads_as s from ns names (Some Absolute) = absolutely s from ns names
+reads_as s from ns names (Some Plain) = plainly s from ns names
+reads_as s from ns names None = plainly s from ns names
 
-  pub reads_super : (kind ≡ 1 → ⊥) → kind ≡ 2 → here ≡ parent_means s (parent_of s (stands_for s from)) → o ≡ reads_to s from ns kind (take n names)
-  unfolding reads_to
-  reads_super a t u = rw (reads_to, ne_eqb _ _ a, eq-eqb _ _ t) (all_later ∙ ap (λ x. follow s from ns x (take n names)) u)
-
-  pub reads_crate : (kind ≡ 1 → ⊥) → (kind ≡ 2 → ⊥) → kind ≡ 3 → here ≡ Some (module_item (crate_root s from))
-      → o ≡ reads_to s from ns kind (take n names)
-  unfolding reads_to
-  reads_crate a b t u = rw (reads_to, ne_eqb _ _ a, ne_eqb _ _ b, eq-eqb _ _ t) (all_later ∙ ap (λ x. follow s from ns x (take n names)) u)
-
--- the other kinds
-module _ (s : Snapshot) (from ns kind : ℕ) (names : List ℕ) where
-  pub reads_absolute : {o : Option Item} → (kind ≡ 1 → ⊥) → (kind ≡ 2 → ⊥) → (kind ≡ 3 → ⊥) → kind ≡ 4 → o ≡ absolutely s from ns names
+module _ (s : Snapshot) (from ns : ℕ) (names : List ℕ) where
+  reads_plain : (kind : ℕ) {o : Option Item} → (kind ≡ 1 → ⊥) → (kind ≡ 2 → ⊥) → (kind ≡ 3 → ⊥) → (kind ≡ 4 → ⊥) → o ≡ plainly s from ns names
       → o ≡ reads_to s from ns kind names
   unfolding reads_to
-  reads_absolute a b c h w = rw (reads_to, ne_eqb _ _ a, ne_eqb _ _ b, ne_eqb _ _ c, eq-eqb _ _ h) w
+  reads_plain kind a b c d w = rw (reads_to, ne_eqb _ _ a, ne_eqb _ _ b, ne_eqb _ _ c, ne_eqb _ _ d) w
 
-  pub reads_plain : {o : Option Item} → (kind ≡ 1 → ⊥) → (kind ≡ 2 → ⊥) → (kind ≡ 3 → ⊥) → (kind ≡ 4 → ⊥) → o ≡ plainly s from ns names
-      → o ≡ reads_to s from ns kind names
+  reads_kind : (kind : ℕ) → reads_as s from ns names (path_kind_of kind) ≡ reads_to s from ns kind names
   unfolding reads_to
-  reads_plain a b c d w = rw (reads_to, ne_eqb _ _ a, ne_eqb _ _ b, ne_eqb _ _ c, ne_eqb _ _ d) w
+  reads_kind zero = refl
+  reads_kind (suc zero) = refl
+  reads_kind (suc (suc zero)) = refl
+  reads_kind (suc (suc (suc zero))) = refl
+  reads_kind (suc (suc (suc (suc zero)))) = refl
+  reads_kind (suc (suc (suc (suc (suc k))))) =
+      reads_plain (suc (suc (suc (suc (suc k))))) (λ e. omega (arith, e)) (λ e. omega (arith, e)) (λ e. omega (arith, e)) (λ e. omega (arith, e)) refl
+
+  pub reads_by : (kind : ℕ) {q r : Option PathKind} {o : Option Item} → q ≡ path_kind_of kind → q ≡ r → o ≡ reads_as s from ns names r
+      → o ≡ reads_to s from ns kind names
+  reads_by kind p e w = w ∙ ap (reads_as s from ns names) (sym e ∙ p) ∙ reads_kind kind
 
 -- a path that begins with a name
 module _ (s : Snapshot) (from ns : ℕ) (names : List ℕ) (n : ℕ) (h : n ≤ length names) where
@@ -215,12 +227,6 @@ module _ (s : Snapshot) (from ns : ℕ) (names : List ℕ) (n : ℕ) (z : n ≡ 
   pub plain_none : None ≡ plainly s from ns (take n names)
   unfolding plainly
   plain_none = rw z
-
-  pub reads_none : (kind : ℕ) → (kind ≡ 1 → ⊥) → (kind ≡ 2 → ⊥) → (kind ≡ 3 → ⊥) → None ≡ reads_to s from ns kind (take n names)
-  reads_none kind a b c =
-      by_test (eqb kind 4)
-      (λ t. reads_absolute s from ns kind (take n names) a b c (eqb-true _ _ t) absolute_none)
-      (λ t. reads_plain s from ns kind (take n names) a b c (eqb-false _ _ t) plain_none)
 
 -- back to the item
 module _ (s : Snapshot) (from : ℕ) (item : Item) (kind : ℕ) (names : List ℕ) {v : ℕ} (h : v ≡ ns_of item) where

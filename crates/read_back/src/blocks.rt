@@ -7,6 +7,7 @@ ghost use Rattle.hir_def.specs.Entries.{entry_of};
 ghost use Rattle.readings.specs.Reads.{outward as outward_of, stands_for, entry_from};
 
 use accept::opened::Snapshot;
+use hir_def::View;
 use hir_def::finds::nearest;
 use hir_def::modules::{block, parent};
 use item_scope::get;
@@ -42,11 +43,10 @@ pub(crate) fn stands_for(db: &Snapshot, m: ModuleId) -> ModuleId
 }
 
 /// The first entry with a namespace and a name in a module or, out of blocks, in the modules around it.
-pub(crate) fn entry_from(db: &Snapshot, from: ModuleId, ns: usize, name: Name) -> Option<usize>
-    requires { from.0 < db.now.records.layout.modules }
-    ensures { entry_of scope_at db.now.records.words.now result ≡ entry_from (snap_in db.now) from.0 ns name.0 }
+pub(crate) fn entry_from(view: &View, ns: usize, name: Name) -> Option<usize>
+    ensures { entry_of scope_at view.now.db.records.words.now result ≡ entry_from (snap_in view.now.db) view.now.from.0 ns name.0 }
 {
-    let find = |m| get(&db.records, m, ns, name);
-    let step = |m| outward(db, m);
-    nearest(from, find, step)
+    let find = |m| get(&view.db.records, m, ns, name);
+    let step = |m| outward(&view.db, m);
+    nearest(view.from, find, step)
 }

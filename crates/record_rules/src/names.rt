@@ -137,6 +137,7 @@ pub fn is_builtin(words: &[u32], at: usize) -> bool
 // Whether a name with the key has the text of the name at a place.
 // Both the heads of the n names and their chains stand in the area, so it is passed whole.
 // `while`: it follows links, so the next number is read.
+// `records::repeats::repeated_with` walks its links alike: why there are two walks is said there.
 fn repeated(words: &[u32], at: usize, area: &[u32], n: usize, key: usize) -> bool
     requires chained { Chained area.now name_heads name_links (λ i. name_key (name_at words.now (name_head area.now i))) n }
     requires n_le_name_limit { (n ≤ name_limit) × (key ≡ name_key (name_at words.now at)) }

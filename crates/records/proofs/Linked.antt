@@ -262,13 +262,10 @@ module _ (W A : List ℕ) (fields at base size n heads links : ℕ) {key : ℕ} 
 
     module _ (k : ℕ) (w : Walking (same_by W true fields at) (λ j. base + size * j) (λ i. record_key W fields (base + size * i)) key n k)
         (go : k ≡ 0 → ⊥)
-        {b : ℕ} {r : Bool} (eb : base + size * (k - 1) ≡ b) (er : r ≡ same_by W true fields at b)
+        {r : Bool} (er : r ≡ same_by W true fields at (base + size * (k - 1)))
       where
-        is : {t : Bool} → r ≡ t → same_by W true fields at (base + size * (k - 1)) ≡ t
-        is h = ap (same_by W true fields at) eb ∙ sym er ∙ h
-
         pub records_hit : r ≡ true → true ≡ any (same_by W true fields at) (rows (λ j. base + size * j) 0 n)
-        records_hit h = walk_hit _ _ _ _ _ only k w (omega arith) (is h)
+        records_hit h = walk_hit _ _ _ _ _ only k w (omega arith) (sym er ∙ h)
 
         module _ {d : ℕ} (ed : d ≡ get_or A (links + (k - 1)) 0) where
           further : Last (λ i. record_key W fields (base + size * i)) (record_key W fields (base + size * (k - 1))) (k - 1) d
@@ -278,12 +275,12 @@ module _ (W A : List ℕ) (fields at base size n heads links : ℕ) {key : ℕ} 
           records_less = let u = further.within in omega arith
 
           pub records_miss : r ≡ false → Walking (same_by W true fields at) (λ j. base + size * j) (λ i. record_key W fields (base + size * i)) key n d
-          records_miss h = walk_miss _ _ _ _ _ only k w (omega arith) (is h) further
+          records_miss h = walk_miss _ _ _ _ _ only k w (omega arith) (sym er ∙ h) further
 
     pub records_end : (k : ℕ) → Walking (same_by W true fields at) (λ j. base + size * j) (λ i. record_key W fields (base + size * i)) key n k → k ≡ 0
         → false ≡ any (same_by W true fields at) (rows (λ j. base + size * j) 0 n)
     records_end k w e = walk_end_lem _ _ _ _ _ only k w e
 
--- a record's last field that counts lies within the words
-pub row_fits : (base size j n len fields : ℕ) → j < n → base + size * n ≤ len → fields < size → base + size * j + fields < len
-row_fits base size j n len fields h p q = let e = step_le size j n h in omega arith
+-- of the record of the number that is met, the last field that counts lies within the words
+pub row_met : (base size : ℕ) {k n len fields : ℕ} → k ≤ n → (k ≡ 0 → ⊥) → base + size * n ≤ len → fields < size → base + size * (k - 1) + fields < len
+row_met base size {k} {n} u h p q = let e = step_le size (k - 1) n (omega arith) in omega arith

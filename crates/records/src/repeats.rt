@@ -1,6 +1,6 @@
 //! Whether a record repeats an earlier one of its kind.
 //! `owner: bool`, whether a record's owner counts, is a variable of `same_by`: the kinds differ in it as in the number of fields.
-ghost use Rattle.std.specs.Prelude.{◌≡◌, ◌+◌, ◌-◌, ◌*◌, ◌^◌, ◌<◌, ◌≤◌, true, ◌||◌, leb, length, get_or};
+ghost use Rattle.std.specs.Prelude.{◌≡◌, ◌+◌, ◌*◌, ◌^◌, ◌<◌, ◌≤◌, true, ◌||◌, leb, length, get_or};
 ghost use Rattle.snapshot.specs.Lists.{rows, any};
 ghost use Rattle.snapshot.specs.Words.{pay_of};
 ghost use Rattle.snapshot.specs.Sizes.{scope_size};
@@ -20,24 +20,16 @@ fn same_fields(words: &[u32], owner: bool, fields: usize, a: usize, b: usize) ->
     (!owner | o) & ((fields < 1) | f) & ((fields < 2) | g)
 }
 
-// The payload of a word.
-// `payload` takes a place in the words; this takes the word, which `same` and `repeated` have at hand.
-fn low(w: u32) -> u32
-    ensures { result ≡ pay_of w }
-{
-    w % 268435456
-}
-
-// The same of a record whose last word that counts stands at p, with the first one's payload: mostly these differ.
-fn same(words: &[u32], owner: bool, fields: usize, a: usize, p: usize, last: u32) -> bool
-    requires { (p < length words.now) × (fields ≤ p) × (fields ≤ 2) × ((leb 1 fields || owner) ≡ true)
+// The same of the record at b, with the first one's payload of the last word that counts: mostly these differ.
+fn same(words: &[u32], owner: bool, fields: usize, a: usize, b: usize, last: usize) -> bool
+    requires { (b + fields < length words.now) × (fields ≤ 2) × ((leb 1 fields || owner) ≡ true)
         × (last ≡ pay_of (get_or words.now (a + fields) 0)) }
-    ensures { result ≡ same_by words.now owner fields a (p - fields) }
+    ensures { result ≡ same_by words.now owner fields a b }
 {
-    if low(words[p]) != last {
+    if payload(words, b + fields) != last {
         return false;
     }
-    same_fields(words, owner, fields, a, p - fields)
+    same_fields(words, owner, fields, a, b)
 }
 
 /// Whether one of the records from a place on is the same as the one at a place.
@@ -54,19 +46,21 @@ pub fn repeated(
         × (fields < size) × (size ≤ scope_size) × (fields ≤ 2) × ((leb 1 fields || owner) ≡ true) }
     ensures { result ≡ any (same_by words.now owner fields at) (rows (λ k. base + size * k) 0 count) }
 {
-    let last = low(words[at + fields]);
-    let mut p = base + fields;
+    let last = payload(words, at + fields);
     for k in 0..count {
-        if same(words, owner, fields, at, p, last) {
+        if same(words, owner, fields, at, base + size * k, last) {
             return true;
         }
-        p += size;
     }
     false
 }
 
 /// The same among the records with a key, by their owner and first fields.
 // `while`: it follows links, so the next number is read.
+// `record_rules::names::repeated` walks its links alike. One walk for both takes the test of a record as a closure, with what the closure gives in
+// each clause, and is no shorter than the two loops.
+// Ten parameters: the rows (`base`, `size`, `count`) and the chain (`heads`, `links`, `key`) as structs would be made at each call and taken apart
+// at once; the clauses, as `Chained`, speak of each number.
 pub fn repeated_with(
     words: &[u32],
     area: &[u32],
@@ -84,11 +78,11 @@ pub fn repeated_with(
     requires count_in_bounds { (base + size * count ≤ length words.now) × (at + size ≤ length words.now) × (length words.now < 2 ^ 32) × (fields < size) }
     ensures { result ≡ any (same_by words.now true fields at) (rows (λ k. base + size * k) 0 count) }
 {
-    let last = low(words[at + fields]);
+    let last = payload(words, at + fields);
     let mut k = word(area, heads + key);
     while k != 0 {
         let j = k - 1;
-        if same(words, true, fields, at, base + size * j + fields, last) {
+        if same(words, true, fields, at, base + size * j, last) {
             return true;
         }
         k = word(area, links + j);

@@ -11,13 +11,14 @@ use lib.ListN.{length, length-append, take-append-drop, get_or, set, take, drop}
 use lib.Seq.{take_at, drop_at, take-length, drop-drop}
 use Rattle.std.specs.Int.{from_bool}
 use Rattle.snapshot.specs.Records.{Snapshot}
+use Rattle.path_choices.specs.Choices.{Choice}
+use Rattle.path_choices.specs.Given.{given}
 use Rattle.find_path.specs.declared.Found.{Found}
 use Rattle.find_path.specs.declared.Query.{Query}
 use Rattle.find_path.specs.declared.Report.{Report}
 use Rattle.find_path.specs.declared.Tank.{Tank}
-use Rattle.find_path.specs.Charged.{Out, found_of}
+use Rattle.find_path.specs.Charged.{Found as Answer, Out, found_of, out_of, given_found}
 use Rattle.find_path.specs.Report.{flag, misleads, outcome_by, reported}
-use Rattle.reports.specs.Outcomes.{out_of}
 use Rattle.reports.specs.Written.{low, report_words, written_to, Written, report_size}
 
 -- a flag as a number
@@ -26,38 +27,41 @@ unfolding flag
 flag_is true = refl
 flag_is false = refl
 
-pub reported_same : (s : Snapshot) (q : Query) (f : Found) (m : Bool) (a e : ℕ) → m ≡ misleads s q f.choice → a ≡ outcome_by m f.choice.found
-    → e ≡ flag f.meter.empty
+-- the report of a choice with the number a of its outcome
+pub reported_same : (s : Snapshot) (q : Query) (f : Found) (c : Choice) (m b : Bool) (a e : ℕ) → given f.choice ≡ c → m ≡ misleads s q (given f.choice)
+    → b ≡ c.found → a ≡ outcome_by m b → e ≡ flag f.meter.empty
     → ◌≡◌ {A = Report} (record {
       outcome = a;
       number = 0;
-      kind = f.choice.kind;
-      names = f.choice.names;
-      count = f.choice.count;
+      kind = c.kind;
+      names = c.names;
+      count = c.count;
       charges = f.meter.spent;
       empty = e;
       left = f.meter.left;
       sought = f.meter.sought;
-      route = f.choice.route;
-      steps = f.choice.steps;
+      route = c.route;
+      steps = c.steps;
     }) (reported s q (out_of f))
 unfolding reported
-reported_same s q f m a e h p k = λ i. record {
-  outcome = (p ∙ ap (λ (b : Bool). outcome_by b f.choice.found) h) i;
-  number = 0;
-  kind = f.choice.kind;
-  names = f.choice.names;
-  count = f.choice.count;
-  charges = f.meter.spent;
-  empty = k i;
-  left = f.meter.left;
-  sought = f.meter.sought;
-  route = f.choice.route;
-  steps = f.choice.steps;
-}
+reported_same s q f c m b a e g h t p k =
+    (λ i. record {
+      outcome = (p ∙ ap₂ outcome_by (h ∙ ap (λ (z : Choice). misleads s q z) g) t) i;
+      number = 0;
+      kind = c.kind;
+      names = c.names;
+      count = c.count;
+      charges = f.meter.spent;
+      empty = k i;
+      left = f.meter.left;
+      sought = f.meter.sought;
+      route = c.route;
+      steps = c.steps;
+    })
+    ∙ ap (λ (z : Choice). reported s q (record { choice = z; meter = f.meter })) (sym g)
 
-pub reported_out : (s : Snapshot) (q : Query) (f : Found) (o : Out Tank) → f ≡ found_of o → reported s q (out_of f) ≡ reported s q o
-reported_out s q f o e = ap (λ (x : Found). reported s q (out_of x)) e
+pub reported_out : (s : Snapshot) (q : Query) (f : Found) (o : Out Tank) → given_found f ≡ found_of o → reported s q (out_of f) ≡ reported s q o
+reported_out s q f o e = ap (λ (x : Answer). reported s q (record { choice = x.choice; meter = x.meter })) e
 
 -- numbers written from a place on
 

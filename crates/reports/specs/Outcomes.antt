@@ -1,7 +1,11 @@
--- What a search of the code answered, as the definitions have it.
-use Rattle.find_path.specs.declared.Found.{Found}
-use Rattle.find_path.specs.declared.Tank.{Tank}
-use Rattle.find_path.specs.Charged.{Out}
+-- The outcomes by their numbers.
+use Rattle.std.specs.Prelude.{ℕ}
+use Rattle.find_path.specs.declared.Outcome.{Outcome}
+use Rattle.find_path.specs.declared.Outcome.TheVariants.{Found, None, Refused, Misleads}
 
-abbrev pub out_of : Found → Out Tank
-out_of f = record { choice = f.choice; meter = f.meter }
+-- the number of an outcome
+abbrev pub outcome_number : Outcome → ℕ
+outcome_number Found = 0
+outcome_number None = 1
+outcome_number Refused = 2
+outcome_number Misleads = 3

@@ -2,12 +2,21 @@
 //! A report is words for C in a slice that C lends, so it is written by hand: there is no heap, and a Display would make text.
 ghost use Rattle.std.specs.Prelude.{◌≡◌, map, ◌++◌, ◌+◌, ◌≤◌, length, take, drop};
 ghost use Rattle.snapshot.specs.Records.{Snapshot};
+ghost use Rattle.path_choices.specs.Given.{given};
 ghost use Rattle.find_path.specs.declared.Query.{Query};
 ghost use Rattle.find_path.specs.Report.{misleads as misleads_in, outcome_by, refused as refused_of, reported as reported_of};
-ghost use Rattle.reports.specs.Outcomes.{out_of};
+ghost use Rattle.find_path.specs.Charged.{out_of};
+ghost use Rattle.reports.specs.Outcomes.{outcome_number};
 ghost use Rattle.reports.specs.Written.{low as low_of, Written};
 
 use find_path::{Found, Outcome, Report};
+
+// The number of an outcome.
+fn number(outcome: Outcome) -> usize
+    ensures { result ≡ outcome_number outcome }
+{
+    outcome as usize
+}
 
 /// A refusal: all else is zero.
 // A number, since a report is words for C; 0 stands in a blank one.
@@ -32,36 +41,49 @@ pub fn refused(number: usize) -> Report
 }
 
 // `misleads` is a test's result, here and in `reported`.
-fn outcome(misleads: bool, found: bool) -> usize
-    ensures { result ≡ outcome_by misleads found }
+fn outcome(misleads: bool, found: bool) -> Outcome
+    ensures { outcome_number result ≡ outcome_by misleads found }
 {
     if misleads {
-        return Outcome::Misleads as usize;
+        return Outcome::Misleads;
     }
-    usize::from(!found)
+    if found {
+        return Outcome::Found;
+    }
+    Outcome::None
 }
 
 /// What a search found and how, whether that misleads, what it was charged, and whether, and where first, it found the tank empty.
 pub fn reported(f: Found, misleads: bool) -> Report
-    ensures { (s : Snapshot) (q : Query) → misleads ≡ misleads_in s q f.choice → result ≡ reported_of s q (out_of f) }
+    ensures { (s : Snapshot) (q : Query) → misleads ≡ misleads_in s q (given f.choice) → result ≡ reported_of s q (out_of f) }
 {
-    let c = f.choice;
     let t = f.meter;
-    let names = c.names;
-    let route = c.route;
-    Report {
-        outcome: outcome(misleads, c.found),
+    let names = [0usize; 16];
+    let route = [0usize; 17];
+    let mut r = Report {
+        outcome: number(outcome(misleads, f.choice.is_some())),
         number: 0,
-        kind: c.kind,
+        kind: 0,
         names: names,
-        count: c.count,
+        count: 0,
         charges: t.spent,
         empty: usize::from(t.empty),
         left: t.left,
         sought: t.sought,
         route: route,
-        steps: c.steps,
-    }
+        steps: 0,
+    };
+    let Some(c) = f.choice else {
+        return r;
+    };
+    let names = c.names;
+    let route = c.route;
+    r.kind = c.kind;
+    r.names = names;
+    r.count = c.count;
+    r.route = route;
+    r.steps = c.steps;
+    r
 }
 
 /// A number of words.

@@ -3,16 +3,14 @@ use Prim.Native.Nat.{ℕ}
 use mathlib.Core.Path.{◌≡◌, refl, sym, ◌∙◌, ap}
 use mathlib.Core.Bool.{Bool, true, false, ◌&&◌, ◌||◌, not, false≢true}
 use Rattle.std.specs.Prelude.{Option}
-use lib.Dec.{eqb}
 use Rattle.snapshot.specs.Records.{Snapshot, Scope}
 use Rattle.hir_def.specs.Items.{ns_of}
 use Rattle.tree_rules.specs.Visibility.{sees}
-use Rattle.hir_def.specs.ItemScope.{is_declared, is_deprecated, is_fresh}
+use Rattle.hir_def.specs.ItemScope.{is_deprecated, is_fresh}
 use Rattle.hir_def.specs.Nameres.{entry_named}
 use Rattle.hir_def.specs.declared.Item.{Item}
 use Rattle.find_path.specs.declared.FindPathCtx.{FindPathCtx}
 use Rattle.find_path.specs.Rules.{same_here, is_usable}
-use Rattle.find_path.specs.Local.{is_importable}
 
 -- the tests of a rule, part by part
 module _ (s : Snapshot) (x : FindPathCtx) (e : Scope) where
@@ -20,10 +18,6 @@ module _ (s : Snapshot) (x : FindPathCtx) (e : Scope) where
       → o ≡ entry_named s x.from.0 k n → b ≡ same_here s x item o
       → a && b ≡ is_usable s x item e
   usable_same item en ek ea eo eb = cc
-
-  pub importable_same : {v : ℕ} {a d : Bool} → a ≡ sees s x.from.0 e → d ≡ is_declared e → v ≡ e.visibility
-      → a && (d || not (eqb v 3)) ≡ is_importable s x e
-  importable_same ea ed ev = cc
 
 not_fresh : (its d t : Bool) → not its || d ≡ true → false ≡ (its && (t && not d))
 not_fresh false d t h = refl

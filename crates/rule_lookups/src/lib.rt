@@ -14,14 +14,14 @@ ghost use Rattle.rule_lookups.specs.Tests.{test_of};
 
 use accept::opened::Snapshot;
 use find_path::FindPathCtx;
-use hir_def::items::{item_of, ns_of, same_item};
+use hir_def::items::{item_at, ns_of};
 use hir_def::spans::scopes;
 use hir_def::{Item, Lookup};
 use item_scope::{is_declared, is_deprecated, is_for, name_of, preferred};
 use nameres::entry_named;
 use path_context::context::sees;
-use snapshot::ids::ModuleId;
-use snapshot::record::{scope_definition, scope_name, scope_ns, scope_visibility};
+use snapshot::ids::{ModuleId, Visibility};
+use snapshot::record::{scope_name, scope_seen};
 use snapshot::records::Records;
 
 /// The rule that looks an item up.
@@ -41,12 +41,7 @@ fn same_here(records: &Records, item: Item, e: Option<usize>) -> bool
     let Some(h) = e else {
         return true;
     };
-    let its = item_of(
-        records,
-        scope_ns(records.words, h),
-        scope_definition(records.words, h),
-    );
-    same_item(its, item)
+    item_at(records, h) == item
 }
 
 /// The tests of the prelude rule: visible, and its name is not another thing's here.
@@ -62,7 +57,6 @@ pub fn is_usable(db: &Snapshot, x: FindPathCtx, item: Item, h: usize) -> bool
 }
 
 /// The tests of the local rule: visible, and declared there or no implicitly private import.
-// By the number of the visibility, 3 for implied: the definition compares it, and a `Visibility` would be made of two words for one variant.
 pub fn is_importable(db: &Snapshot, x: FindPathCtx, h: usize) -> bool
     requires { (x.from.0 < db.now.records.layout.modules) × (2 ≤ (scope_at db.now.records.words.now h).visibility
         → (scope_at db.now.records.words.now h).number < db.now.records.layout.modules) }
@@ -70,8 +64,10 @@ pub fn is_importable(db: &Snapshot, x: FindPathCtx, h: usize) -> bool
 {
     let seen = sees(db, x, h);
     let declared = is_declared(db.records.words, h);
-    let explicit = scope_visibility(db.records.words, h) != 3;
-    seen & (declared | explicit)
+    match scope_seen(db.records.words, h) {
+        Visibility::Implied(_) => seen & declared,
+        _ => seen,
+    }
 }
 
 // The tests of the rule.

@@ -45,7 +45,8 @@ fn is_entry(words: &[u32], at: usize, key: EntryKey) -> bool
 // The end for none: the definition `entry_place` answers it, and `edits` tests the place against the count of words. An `Option` would be made that
 // number in each clause.
 // `while`, as in `scopes_end`.
-// The walk of `scopes_end` to another record: the tests are of two definitions, and as a closure each would need a law to its own.
+// The walk of `scopes_end` to another record. One walk for both takes the test as a closure, with what the closure gives in its clauses, and is no
+// shorter than the two loops.
 pub fn entry_place(words: &[u32], key: EntryKey) -> usize
     requires { length words.now ≤ word_limit }
     ensures { result ≡ entry_place (is_named key.owner key.ns key.name) words.now }

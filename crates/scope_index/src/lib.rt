@@ -67,7 +67,8 @@ pub fn index_scopes(records: &Records, area: &mut Area)
 }
 
 /// The first of the module's entries for the item.
-// `while`: it follows links, so the next number is read; so in `modules_from`.
+// `while`: it follows links, so the next number is read. So in `modules_from`. That walk may begin within a chain and is stated over the entries
+// from a number on, so one of both would have two clauses over its test.
 pub fn name_in(records: &Records, area: &[u32], m: ModuleId, item: Item) -> Option<usize>
     requires { Sized records.now.words.now records.now.layout × (m.0 < records.now.layout.modules) × Indexed records.now.words.now records.now.layout 0 area.now }
     ensures { entry_of scope_at records.now.words.now result ≡ name_of (snap_by records.now area.now) m.0 item }

@@ -23,14 +23,12 @@ use Rattle.hir_def.specs.declared.Item.{Item}
 use Rattle.hir_def.specs.declared.Item.TheVariants.{Mod, Def}
 use Rattle.hir_def.proofs.Lookups.{item_module, item_other}
 use Rattle.hir_def.proofs.Fits.{definition_fits, item_known}
-use Rattle.path_choices.specs.declared.Choice.{Choice}
 use Rattle.find_path.specs.declared.Tank.{Tank}
-use Rattle.find_path.specs.declared.Found.{Found}
 use Rattle.find_path.specs.declared.FindPathCtx.{FindPathCtx}
-use Rattle.path_choices.specs.Choices.{nothing}
+use Rattle.path_choices.specs.Choices.{Choice}
 use Rattle.find_path.specs.Rules.{first_found, scope_rule, prelude_rule}
 use Rattle.find_path.specs.Meters.{from_tank}
-use Rattle.find_path.specs.Charged.{Out, found_of, variant_of, push_variant, after_enum, via_enum, or_enum, by_name, of_module, find_path_inner}
+use Rattle.find_path.specs.Charged.{Out, Found, found_of, variant_of, push_variant, after_enum, via_enum, or_enum, by_name, of_module, find_path_inner}
 use Rattle.find_path.specs.Search.{best_local}
 use Rattle.search_laws.proofs.Unfold.{EnumNoVariant, inner_more}
 use Rattle.search_laws.proofs.Bounds.{Fits, more, either_fits, nothing_fits, scope_fits, prelude_fits, best_local_fits, best_within}
@@ -39,26 +37,6 @@ use Rattle.charged_search.specs.Parts.{modules, best_path}
 use Rattle.search_parts.specs.Parts.{straight}
 use Rattle.search.specs.Parts.{items, names}
 use Rattle.charged_search.proofs.Parts.{found}
-
--- the first that is found, of two
-module _ (p q : Choice) where
-  pub first_one : {c : Choice} → c ≡ p → c.found ≡ true → c ≡ first_found (p ∷ q ∷ [])
-  unfolding first_found
-  first_one e f = let k : p.found ≡ true = ap (λ (y : Choice). y.found) (sym e) ∙ f in rw (first_found, k) e
-
-  pub first_two : {c d : Choice} → c ≡ p → c.found ≡ false → d ≡ q → d.found ≡ true → d ≡ first_found (p ∷ q ∷ [])
-  unfolding first_found
-  first_two e f h g =
-      let k : p.found ≡ false = ap (λ (y : Choice). y.found) (sym e) ∙ f in
-      let n : q.found ≡ true = ap (λ (y : Choice). y.found) (sym h) ∙ g in
-      rw (first_found, k, first_found, n) h
-
-  pub first_none : {c d r : Choice} → c ≡ p → c.found ≡ false → d ≡ q → d.found ≡ false → r ≡ nothing → r ≡ first_found (p ∷ q ∷ [])
-  unfolding first_found
-  first_none e f h g z =
-      let k : p.found ≡ false = ap (λ (y : Choice). y.found) (sym e) ∙ f in
-      let n : q.found ≡ false = ap (λ (y : Choice). y.found) (sym h) ∙ g in
-      rw (first_found, k, first_found, n, first_found) z
 
 -- the number of an item's definition, 0 for a module
 abbrev pub number : Item → ℕ

@@ -18,15 +18,16 @@ use Rattle.hir_def.specs.Entries.{Known, ReadsAs}
 use Rattle.hir_def.specs.declared.Item.{Item}
 use Rattle.hir_def.specs.declared.Item.TheVariants.{Mod, Def}
 use Rattle.hir_def.proofs.Fits.{definition_fits, home_fits}
-use Rattle.path_choices.specs.declared.Choice.{Choice}
+use Rattle.path_choices.specs.declared.Choice.{Choice as Path}
+use Rattle.path_choices.specs.Given.{chosen, given}
 use Rattle.find_path.specs.declared.Tank.{Tank}
-use Rattle.find_path.specs.declared.Found.{Found}
+use Rattle.find_path.specs.declared.Found.{Found as CodeFound}
 use Rattle.find_path.specs.declared.FindPathCtx.{FindPathCtx}
 use Rattle.find_path.specs.declared.Query.{Query}
-use Rattle.path_choices.specs.Choices.{via_builtin, via_variant, step_by, nothing, choice_new, push}
+use Rattle.path_choices.specs.Choices.{Choice, via_builtin, via_variant, step_by, nothing, choice_new, push}
 use Rattle.find_path.specs.Rules.{context_of, first_found, scope_rule, prelude_rule}
 use Rattle.find_path.specs.Meters.{from_tank, filled}
-use Rattle.find_path.specs.Charged.{Out, found_of, variant_of, push_variant}
+use Rattle.find_path.specs.Charged.{Out, Found, found_of, given_found, variant_of, push_variant}
 use Rattle.find_path.specs.Search.{builtin_choice, from_home, from_item, find_path}
 use Rattle.find_path.specs.Report.{searched}
 use Rattle.find_path.specs.Conditions.{Prepared, Searched}
@@ -75,30 +76,33 @@ tank_stays s x i t r e h =
 -- a variant by its enum, and else by itself
 module _ {W A₀ B : List ℕ} {l : Layout} {x : FindPathCtx} (p : Prepared W A₀ l x) (item : Item) (t : Tank) {c : Choice}
     (e : c ≡ first_found (scope_rule (snap_of W A₀ l) x item ∷ prelude_rule (snap_of W A₀ l) x item ∷ [])) (f : c.found ≡ false)
-    (v : Definition) (h : Some v ≡ variant_of (snap_of W A₀ l) item) {i : Item} (g : i ≡ item_of (snap_of W A₀ l) 0 v.first) {o : Found}
+    (v : Definition) (h : Some v ≡ variant_of (snap_of W A₀ l) item) {i : Item} (g : i ≡ item_of (snap_of W A₀ l) 0 v.first) {o : CodeFound}
     (d : Searched A₀ (items (snap_of W A₀ l) x i t) B o) where
-  parent_same : o ≡ found_of (items (snap_of W A₀ l) x (item_of (snap_of W A₀ l) 0 v.first) t)
+  parent_same : given_found o ≡ found_of (items (snap_of W A₀ l) x (item_of (snap_of W A₀ l) 0 v.first) t)
   parent_same = d.same ∙ ap (λ (y : Item). found_of (items (snap_of W A₀ l) x y t)) g
 
-  pub enum_run : {n : ℕ} {r : Choice} → o.choice.found ≡ true → n ≡ v.second
-      → r ≡ push (snap_of W B l) o.choice n (step_by via_variant v.place) → Searched A₀ (names (snap_of W A₀ l) x item t) B (found r o.meter)
+  pub enum_run : {n : ℕ} {b r : Path} → o.choice ≡ Some b → n ≡ v.second
+      → chosen r ≡ push (snap_of W B l) (chosen b) n (step_by via_variant v.place)
+      → Searched A₀ (names (snap_of W A₀ l) x item t) B (record { choice = Some r; meter = o.meter })
   unfolding push_variant
-  enum_run {n} k m q =
+  enum_run {n} {b} k m q =
+      let g : given o.choice ≡ chosen b = ap given k in
       record {
         same =
             ap (λ (y : Choice). found y o.meter)
-            (q ∙ ap (λ (s : Snapshot). push s o.choice n (step_by via_variant v.place)) (same_snap W A₀ B l d.tables p.reads)
-            ∙ ap (λ (n : ℕ). push (snap_of W A₀ l) o.choice n (step_by via_variant v.place)) m)
-            ∙ enum_found (snap_of W A₀ l) x item t e v f h parent_same k;
+            (q ∙ ap (λ (s : Snapshot). push s (chosen b) n (step_by via_variant v.place)) (same_snap W A₀ B l d.tables p.reads)
+            ∙ ap (λ (n : ℕ). push (snap_of W A₀ l) (chosen b) n (step_by via_variant v.place)) m
+            ∙ ap (λ (y : Choice). push (snap_of W A₀ l) y v.second (step_by via_variant v.place)) (sym g))
+            ∙ enum_found (snap_of W A₀ l) x item t e v f h parent_same (ap (λ (y : Choice). y.found) g);
         tables = d.tables;
       }
 
-  pub else_run : {D : List ℕ} {r : Found} → o.choice.found ≡ false → Searched B (best_path (snap_of W B l) x x.max_len item o.meter) D r
+  pub else_run : {D : List ℕ} {r : CodeFound} → o.choice ≡ None → Searched B (best_path (snap_of W B l) x x.max_len item o.meter) D r
       → Searched A₀ (names (snap_of W A₀ l) x item t) D r
   else_run k q =
       let y = later W A₀ B l x p d.tables (λ (s : Snapshot). best_path s x x.max_len item o.meter) q in
       record {
-        same = y.same ∙ ap found_of (enum_none (snap_of W A₀ l) x item t e v f h parent_same k);
+        same = y.same ∙ ap found_of (enum_none (snap_of W A₀ l) x item t e v f h parent_same (ap (λ z. (given z).found) k));
         tables = y.tables;
       }
 
@@ -132,11 +136,11 @@ module _ (s : Snapshot) (q : Query) (fuel : ℕ) where
       ∙ ap (λ (y : Item). from_home Tank from_tank s q y (full fuel) (home_of s y)) g
       ∙ by_builtin false e f
 
-  pub start_none : {k : ℕ} {c : Choice} (item : Item) (h : ℕ) → k ≡ (definition_of s q.definition.0).kind → builtin k ≡ false
-      → item ≡ item_of s q.ns q.definition.0 → h ≡ home_of s item → h ≡ 0 → c ≡ nothing → found c (full fuel) ≡ found_of (searched s q fuel)
+  pub start_none : {k : ℕ} (item : Item) (h : ℕ) → k ≡ (definition_of s q.definition.0).kind → builtin k ≡ false
+      → item ≡ item_of s q.ns q.definition.0 → h ≡ home_of s item → h ≡ 0 → found nothing (full fuel) ≡ found_of (searched s q fuel)
   unfolding from_home
-  start_none item zero e f g k z n = ap (λ (y : Choice). found y (full fuel)) n ∙ ap found_of (by_home item zero e f g k)
-  start_none item (suc m) e f g k z n = absurd (omega arith)
+  start_none item zero e f g k z = ap found_of (by_home item zero e f g k)
+  start_none item (suc m) e f g k z = absurd (omega arith)
 
   pub start_item : {k : ℕ} {x : FindPathCtx} (item : Item) (h : ℕ) → k ≡ (definition_of s q.definition.0).kind → builtin k ≡ false
       → item ≡ item_of s q.ns q.definition.0 → h ≡ home_of s item → {m : ℕ} → h ≡ suc m → x ≡ context_of s q m

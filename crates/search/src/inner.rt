@@ -8,6 +8,7 @@ ghost use Rattle.accept.specs.Opened.{snap_in};
 ghost use Rattle.hir_def.specs.Items.{definition_of};
 ghost use Rattle.hir_def.specs.Entries.{entry_of};
 ghost use Rattle.path_choices.specs.Choices.{via_variant, step_by, push as push_of};
+ghost use Rattle.path_choices.specs.Given.{chosen, given};
 ghost use Rattle.find_path.specs.Rules.{first_found, scope_rule, prelude_rule};
 ghost use Rattle.find_path.specs.Charged.{variant_of};
 ghost use Rattle.find_path.specs.Meters.{from_tank};
@@ -22,7 +23,7 @@ use charged_search::{calculate_best_path, find_path_for_module};
 use find_path::{Choice, FindPathCtx, Found, Query, Tank};
 use hir_def::Item;
 use hir_def::items::{definition_head, home_of, item_of, known_kind_of};
-use path_rules::choices::{StepRule, nothing, step_by};
+use path_rules::choices::{StepRule, step_by};
 use path_rules::context::{context, module_in};
 use path_rules::rules::{prelude_rule, scope_rule};
 use search_parts::straight_of;
@@ -31,20 +32,16 @@ use snapshot::record::{definition_first, definition_second, known_definition_kin
 use snapshot::records::Records;
 
 // The item's name in scope, else in the prelude.
-fn named(db: &Snapshot, x: FindPathCtx, item: Item) -> Choice
+// An early return, as in the Rust.
+fn named(db: &Snapshot, x: FindPathCtx, item: Item) -> Option<Choice>
     requires { x.from.0 < db.now.records.layout.modules }
-    ensures { result ≡ first_found (scope_rule (snap_in db.now) x item ∷ prelude_rule
+    ensures { given result ≡ first_found (scope_rule (snap_in db.now) x item ∷ prelude_rule
         (snap_in db.now) x item ∷ []) }
 {
-    let scope = scope_rule(db, x, item);
-    if scope.found {
-        return scope;
+    if let Some(c) = scope_rule(db, x, item) {
+        return Some(c);
     }
-    let prelude = prelude_rule(db, x, item);
-    if prelude.found {
-        return prelude;
-    }
-    nothing()
+    prelude_rule(db, x, item)
 }
 
 // The place of the item's definition, if it is a variant.
@@ -64,7 +61,7 @@ fn variant_of(records: &Records, item: Item) -> Option<usize>
 // A variant's name, with its definition at a place, after the path of its enum.
 fn push_variant(db: &Snapshot, c: Choice, n: Name, h: usize) -> Choice
     requires { (n.0 < db.now.records.layout.names) × (c.count < 16) × (c.path_text_len < 2 ^ 32) × (c.steps < 17) × (h < word_limit) }
-    ensures { result ≡ push_of (snap_in db.now) c n.0 (step_by via_variant h) }
+    ensures { chosen result ≡ push_of (snap_in db.now) (chosen c) n.0 (step_by via_variant h) }
 {
     let via = step_by(StepRule::Variant, h);
     c.push(db, n, via)
@@ -73,7 +70,7 @@ fn push_variant(db: &Snapshot, c: Choice, n: Name, h: usize) -> Choice
 // The name of a builtin.
 fn builtin_choice(db: &Snapshot, d: DefinitionId) -> Choice
     requires { (d.0 < db.now.records.layout.definitions) × ((definition_of (snap_in db.now) d.0).kind ≡ 3) }
-    ensures { result ≡ builtin_choice (snap_in db.now)
+    ensures { chosen result ≡ builtin_choice (snap_in db.now)
         (definition_of (snap_in db.now) d.0) }
 {
     let h = definition_head(&db.records, d);
@@ -111,10 +108,9 @@ fn find_by_name(records: &Records, area: &mut Area, x: FindPathCtx, item: Item, 
         records: *records,
         area,
     };
-    let choice = named(&db, x, item);
-    if choice.found {
+    if let Some(c) = named(&db, x, item) {
         return Found {
-            choice: choice,
+            choice: Some(c),
             meter: t,
         };
     }
@@ -127,20 +123,18 @@ fn find_by_name(records: &Records, area: &mut Area, x: FindPathCtx, item: Item, 
         DefinitionId(definition_first(records.words, h)),
     );
     let o = find_path_inner(records, area, x, parent, t);
-    let best = o.choice;
-    let meter = o.meter;
-    if best.found {
-        let db = Snapshot {
-            records: *records,
-            area,
-        };
-        let choice = push_variant(&db, best, Name(definition_second(records.words, h)), h);
-        return Found {
-            choice: choice,
-            meter: meter,
-        };
+    let Some(best) = o.choice else {
+        return calculate_best_path(records, area, x, x.max_len, item, o.meter);
+    };
+    let db = Snapshot {
+        records: *records,
+        area,
+    };
+    let c = push_variant(&db, best, Name(definition_second(records.words, h)), h);
+    Found {
+        choice: Some(c),
+        meter: o.meter,
     }
-    calculate_best_path(records, area, x, x.max_len, item, meter)
 }
 
 /// The search for the item of a question with a full tank, for a limit in range.
@@ -162,18 +156,14 @@ pub fn find_path(records: &Records, area: &mut Area, q: Query, fuel: usize) -> F
             records: *records,
             area,
         };
-        let choice = builtin_choice(&db, q.definition);
-        return Found {
-            choice: choice,
-            meter: meter,
-        };
+        let choice = Some(builtin_choice(&db, q.definition));
+        return Found { choice, meter };
     }
     let item = item_of(records, q.ns, q.definition);
     let Some(home) = home_of(records, item) else {
-        let choice = nothing();
         return Found {
-            choice: choice,
-            meter: meter,
+            choice: None,
+            meter,
         };
     };
     let own = module_in(item);

@@ -15,7 +15,7 @@ use Rattle.hir_def.specs.Nameres.{lang_of, sysroot_first, extern_of}
 use Rattle.hir_def.specs.ImportMap.{import_info_for, is_unstable, is_hidden}
 use Rattle.hir_def.specs.declared.Item.{Item}
 use Rattle.hir_def.specs.declared.Item.TheVariants.{Mod, Def}
-use Rattle.path_choices.specs.declared.Choice.{Choice}
+use Rattle.path_choices.specs.Choices.{Choice}
 use Rattle.find_path.specs.declared.FindPathCtx.{FindPathCtx}
 use Rattle.find_path.specs.declared.Query.{Query}
 use Rattle.path_choices.specs.Choices.{name_len, path_kind_len, plain_path, crate_path, nothing, keyword, choice_new, extended, push, unstably, better}

@@ -9,7 +9,7 @@ use Rattle.std.specs.Prelude.{Some}
 use borrow.Author.Tests.{eq-eqb}
 use Rattle.snapshot.specs.Records.{Snapshot, Scope}
 use Rattle.hir_def.specs.Items.{module_item}
-use Rattle.path_choices.specs.declared.Choice.{Choice}
+use Rattle.path_choices.specs.Choices.{Choice}
 use Rattle.find_path.specs.declared.FindPathCtx.{FindPathCtx}
 use Rattle.path_choices.specs.Choices.{is_prelude, nothing, length_left, extended, push}
 use Rattle.find_path.specs.Walk.{Level, has}

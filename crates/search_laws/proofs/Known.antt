@@ -28,7 +28,7 @@ use Rattle.hir_def.specs.declared.Item.{Item}
 use Rattle.hir_def.specs.declared.Item.TheVariants.{Mod, Def}
 use Rattle.hir_def.proofs.Found.{each_first, each_select}
 use Rattle.hir_def.proofs.Fits.{each_back}
-use Rattle.path_choices.specs.declared.Choice.{Choice}
+use Rattle.path_choices.specs.Choices.{Choice}
 use Rattle.find_path.specs.declared.FindPathCtx.{FindPathCtx}
 use Rattle.find_path.specs.declared.Query.{Query}
 use Rattle.find_path.specs.declared.Question.{Question}

@@ -12,7 +12,7 @@ use borrow.Author.Tests.{eqb-true, eqb-false}
 use Rattle.snapshot.specs.Records.{Snapshot, Scope}
 use Rattle.hir_def.specs.Items.{crate_root, module_item}
 use Rattle.hir_def.specs.declared.Item.{Item}
-use Rattle.path_choices.specs.declared.Choice.{Choice}
+use Rattle.path_choices.specs.Choices.{Choice}
 use Rattle.find_path.specs.declared.FindPathCtx.{FindPathCtx}
 use Rattle.path_choices.specs.Choices.{plain_path, crate_path, nothing, path_len, keyword, choice_new, extended, push, length_left}
 use Rattle.find_path.specs.Rules.{by_crate, prefix_path_kind, first_found, single, may_be_in_scope, scope_rule, prelude_rule, root_rule, keyword_of, module_rules}

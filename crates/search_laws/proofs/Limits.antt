@@ -17,7 +17,7 @@ use Rattle.hir_def.specs.Nameres.{entry_named, occupied, prelude_of, extern_of, 
 use Rattle.hir_def.specs.ImportMap.{import_info_for, is_hidden, is_unstable}
 use Rattle.hir_def.specs.declared.Item.{Item}
 use Rattle.hir_def.specs.declared.Item.TheVariants.{Mod, Def}
-use Rattle.path_choices.specs.declared.Choice.{Choice}
+use Rattle.path_choices.specs.Choices.{Choice}
 use Rattle.find_path.specs.declared.FindPathCtx.{FindPathCtx}
 use Rattle.find_path.specs.declared.Query.{Query}
 use Rattle.find_path.specs.declared.Report.{Report}

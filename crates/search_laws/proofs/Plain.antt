@@ -26,7 +26,7 @@ use Rattle.readings.specs.Reads.{self_kind, super_kind, crate_kind, absolute_kin
 use Rattle.readings.specs.Reads.{in_externs, prelude_means, in_prelude_of, entry_from, first_name, variant_named, variant_in, later_name, after, looked_in}
 use Rattle.readings.specs.Reads.{follow, absolutely, parent_means, reads_to, is_the, reads_back}
 use Rattle.hir_def.proofs.Plain.{plain, plainly, plain_of, first_plain, name_plain, names_plain}
-use Rattle.path_choices.specs.declared.Choice.{Choice}
+use Rattle.path_choices.specs.Choices.{Choice}
 use Rattle.find_path.specs.declared.FindPathCtx.{FindPathCtx}
 use Rattle.find_path.specs.declared.Query.{Query}
 use Rattle.find_path.specs.declared.Question.{Question}

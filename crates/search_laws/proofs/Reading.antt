@@ -19,7 +19,7 @@ use Rattle.hir_def.specs.Items.{types, module_kind, builtin_kind, map_of, map_no
 use Rattle.hir_def.specs.declared.Item.{Item}
 use Rattle.readings.specs.Reads.{reads_to, reads_back}
 use Rattle.read_back.proofs.Exact.{reads_exactly, exactly_reads}
-use Rattle.path_choices.specs.declared.Choice.{Choice}
+use Rattle.path_choices.specs.Choices.{Choice}
 use Rattle.find_path.specs.declared.FindPathCtx.{FindPathCtx}
 use Rattle.find_path.specs.declared.Query.{Query}
 use Rattle.find_path.specs.declared.Tank.{Tank}

@@ -32,7 +32,7 @@ use Rattle.hir_def.specs.declared.Item.{Item}
 use Rattle.hir_def.specs.declared.Item.TheVariants.{Mod, Def}
 use Rattle.hir_def.proofs.Fresh.{preferred_has}
 use Rattle.read_back.proofs.Exact.{same_item_lem}
-use Rattle.path_choices.specs.declared.Choice.{Choice}
+use Rattle.path_choices.specs.Choices.{Choice}
 use Rattle.find_path.specs.declared.FindPathCtx.{FindPathCtx}
 use Rattle.find_path.specs.declared.Query.{Query}
 use Rattle.find_path.specs.declared.Question.{Question}

@@ -14,7 +14,7 @@ use Rattle.find_path.specs.declared.FindPathCtx.{FindPathCtx}
 use Rattle.path_choices.specs.Choices.{nothing, path_len, length_left, push}
 use Rattle.find_path.specs.Rules.{module_rules}
 use Rattle.search_laws.specs.Near.{is_some, ruled, locations, imports, near}
-use Rattle.path_choices.specs.declared.Choice.{Choice}
+use Rattle.path_choices.specs.Choices.{Choice}
 use Rattle.find_path.specs.Walk.{Level, has}
 use Rattle.find_path.specs.Local.{LocalSearch, importable_name, location, calculate_best_path_local, or_local, find_path_for_module_local}
 use Rattle.find_path.specs.Search.{local_to, search_local}

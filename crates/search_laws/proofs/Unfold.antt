@@ -11,7 +11,7 @@ use Rattle.hir_def.specs.Nameres.{lang_of, sysroot_first}
 use Rattle.hir_def.specs.ImportMap.{import_info_for, is_hidden}
 use Rattle.hir_def.specs.declared.Item.{Item}
 use Rattle.hir_def.specs.declared.Item.TheVariants.{Mod, Def}
-use Rattle.path_choices.specs.declared.Choice.{Choice}
+use Rattle.path_choices.specs.Choices.{Choice}
 use Rattle.find_path.specs.declared.FindPathCtx.{FindPathCtx}
 use Rattle.path_choices.specs.Choices.{nothing, path_len, shorter_if, length_left}
 use Rattle.find_path.specs.Walk.{Level}

@@ -14,7 +14,7 @@ use Rattle.hir_def.specs.Finds.{select}
 use Rattle.hir_def.specs.Items.{same_item, module_item}
 use Rattle.hir_def.specs.declared.Item.{Item}
 use Rattle.hir_def.specs.declared.Item.TheVariants.{Mod, Def}
-use Rattle.path_choices.specs.declared.Choice.{Choice}
+use Rattle.path_choices.specs.Choices.{Choice}
 use Rattle.find_path.specs.declared.FindPathCtx.{FindPathCtx}
 use Rattle.path_choices.specs.Choices.{nothing}
 use Rattle.find_path.specs.Walk.{Level, has, visited, start_from, leads_to, unmet, walk}

@@ -11,7 +11,7 @@ use borrow.Author.Tests.{ne_eqb, eqb-true, eqb-false, le-leb, lt-leb}
 use Rattle.snapshot.specs.Lists.{any}
 use Rattle.snapshot.specs.Records.{Snapshot, Scope}
 use Rattle.hir_def.specs.Items.{same_item, module_item}
-use Rattle.path_choices.specs.declared.Choice.{Choice}
+use Rattle.path_choices.specs.Choices.{Choice}
 use Rattle.find_path.specs.declared.FindPathCtx.{FindPathCtx}
 use Rattle.path_choices.specs.Choices.{via_local, step_by, is_prelude, name_len, nothing, path_len, shorter_if, length_left, compare_bool, and_then}
 use Rattle.path_choices.specs.Choices.{compare_prelude, taken, better, extended, push}

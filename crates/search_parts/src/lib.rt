@@ -2,6 +2,7 @@
 #![tactic(auto)]
 
 ghost use Rattle.std.specs.Prelude.{◌≡◌, [], ◌∷◌};
+ghost use Rattle.path_choices.specs.Given.{given};
 ghost use Rattle.find_path.specs.Charged.{is_stable, langs};
 ghost use Rattle.snapshot.specs.Ids.{plus_one};
 ghost use Rattle.snapshot.specs.Origins.{origin_number};
@@ -12,10 +13,13 @@ use hir_def::Item;
 use snapshot::ids::{CrateOrigin, ModuleId};
 
 /// Whether a choice ends the search of the sysroot.
-pub fn is_stable(c: Choice) -> bool
-    ensures { result ≡ is_stable c }
+pub fn is_stable(c: Option<Choice>) -> bool
+    ensures { result ≡ is_stable (given c) }
 {
-    c.found & c.stable
+    match c {
+        Some(c) => c.stable,
+        None => false,
+    }
 }
 
 /// Three origins, in the order in which their crates are tried.

@@ -12,10 +12,10 @@ ghost use Rattle.nameable.specs.Seen.{seen as seen_from};
 
 use crate::privacy::holds;
 use accept::opened::Snapshot;
-use hir_def::Item;
 use hir_def::finds::first_where;
 use hir_def::items::{first_of, home_of, known_kind_of};
 use hir_def::spans::scopes;
+use hir_def::{Item, View};
 use item_scope::is_declared;
 use module_tree::modules::parent;
 use snapshot::ids::{DefinitionId, DefinitionKind, ModuleId, Namespace};
@@ -85,35 +85,39 @@ pub fn declaration_of(db: &Snapshot, h: usize) -> Option<usize>
     declaration_in(&db.records, m, ns, declared_as(&db.records, d))
 }
 
-// Whether the visibility of the entry with its head at a place holds in a module.
-fn holds_at(db: &Snapshot, v: ModuleId, h: usize) -> bool
-    requires { (v.0 < db.now.records.layout.modules) × ScopeFits (counts_in db.now.records.layout) (scope_at db.now.records.words.now h) }
-    ensures { result ≡ holds_in (snap_in db.now) v.0 (scope_at db.now.records.words.now h) }
+// Whether the visibility of the entry with its head at a place holds in the viewing module.
+fn holds_at(view: &View, h: usize) -> bool
+    requires { ScopeFits (counts_in view.now.db.records.layout) (scope_at view.now.db.records.words.now h) }
+    ensures { result ≡ holds_in (snap_in view.now.db) view.now.from.0 (scope_at view.now.db.records.words.now h) }
 {
-    holds(db, scope_seen(db.records.words, h), v)
+    holds(view, scope_seen(view.db.records.words, h))
 }
 
-// Whether that and its declaration's both hold in a module.
-fn both_hold(db: &Snapshot, v: ModuleId, h: usize) -> bool
-    requires { (v.0 < db.now.records.layout.modules) × ScopeFits (counts_in db.now.records.layout) (scope_at db.now.records.words.now h) }
-    ensures { result ≡ both_hold (snap_in db.now) v.0 (scope_at db.now.records.words.now h) }
+// Whether that and its declaration's both hold.
+fn both_hold(view: &View, h: usize) -> bool
+    requires { ScopeFits (counts_in view.now.db.records.layout) (scope_at view.now.db.records.words.now h) }
+    ensures { result ≡ both_hold (snap_in view.now.db) view.now.from.0 (scope_at view.now.db.records.words.now h) }
 {
-    if holds_at(db, v, h) {
-        let Some(e) = declaration_of(db, h) else {
+    if holds_at(view, h) {
+        let Some(e) = declaration_of(&view.db, h) else {
             return true;
         };
-        return holds_at(db, v, e);
+        return holds_at(view, e);
     }
     false
 }
 
 /// Whether the entry with its head at a place counts in its module and is seen from the viewer.
-pub fn seen(db: &Snapshot, from: ModuleId, h: usize) -> bool
-    requires { (from.0 < db.now.records.layout.modules) × ScopeFits (counts_in db.now.records.layout) (scope_at db.now.records.words.now h) }
-    ensures { result ≡ seen_from (snap_in db.now) from.0 (scope_at db.now.records.words.now h) }
+pub fn seen(view: &View, h: usize) -> bool
+    requires { ScopeFits (counts_in view.now.db.records.layout) (scope_at view.now.db.records.words.now h) }
+    ensures { result ≡ seen_from (snap_in view.now.db) view.now.from.0 (scope_at view.now.db.records.words.now h) }
 {
-    if both_hold(db, scope_owner(db.records.words, h), h) {
-        return both_hold(db, from, h);
+    let own = View {
+        db: view.db,
+        from: scope_owner(view.db.records.words, h),
+    };
+    if both_hold(&own, h) {
+        return both_hold(view, h);
     }
     false
 }

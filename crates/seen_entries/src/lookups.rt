@@ -10,70 +10,50 @@ ghost use Rattle.nameable.specs.Seen.{seen as seen_from};
 ghost use Rattle.nameable.specs.Queue.{seen_named};
 
 use crate::entries::seen;
-use accept::opened::Snapshot;
-use hir_def::Item;
 use hir_def::finds::first_where;
 use hir_def::spans::scopes;
-use item_scope::is_for;
+use hir_def::{Item, View};
+use item_scope::{is_for, is_named};
 use snapshot::ids::{ModuleId, Name};
-use snapshot::record::{scope_name, scope_ns, scope_owner};
 
 // Whether the entry with its head at a place has the module, the namespace and the name, and is seen.
-fn is_named_seen(
-    db: &Snapshot,
-    from: ModuleId,
-    m: ModuleId,
-    ns: usize,
-    name: Name,
-    h: usize,
-) -> bool
-    requires { (from.0 < db.now.records.layout.modules) × ScopeFits (counts_in db.now.records.layout) (scope_at db.now.records.words.now h) }
-    ensures { result ≡ (is_named m.0 ns name.0 (scope_at db.now.records.words.now h) && seen_from
-        (snap_in db.now) from.0 (scope_at db.now.records.words.now h)) }
+fn is_named_seen(view: &View, m: ModuleId, ns: usize, name: Name, h: usize) -> bool
+    requires { ScopeFits (counts_in view.now.db.records.layout) (scope_at view.now.db.records.words.now h) }
+    ensures { result ≡ (is_named m.0 ns name.0 (scope_at view.now.db.records.words.now h) && seen_from
+        (snap_in view.now.db) view.now.from.0 (scope_at view.now.db.records.words.now h)) }
 {
-    let words = db.records.words;
-    if (scope_owner(words, h) == m)
-        & ((scope_ns(words, h) == ns) & (scope_name(words, h) == name))
-    {
-        return seen(db, from, h);
+    if is_named(view.db.records.words, h, m, ns, name) {
+        return seen(view, h);
     }
     false
 }
 
 /// The seen entry of a module with a namespace and a name.
-pub fn entry_named(
-    db: &Snapshot,
-    from: ModuleId,
-    m: ModuleId,
-    ns: usize,
-    name: Name,
-) -> Option<usize>
-    requires { from.0 < db.now.records.layout.modules }
-    ensures { entry_of scope_at db.now.records.words.now result ≡ seen_named (snap_in db.now)
-        from.0 ns m.0 name.0 }
+pub fn entry_named(view: &View, m: ModuleId, ns: usize, name: Name) -> Option<usize>
+    ensures { entry_of scope_at view.now.db.records.words.now result ≡ seen_named (snap_in view.now.db)
+        view.now.from.0 ns m.0 name.0 }
 {
-    let test = |h| is_named_seen(db, from, m, ns, name, h);
-    first_where(scopes(&db.records), test)
+    let test = |h| is_named_seen(view, m, ns, name, h);
+    first_where(scopes(&view.db.records), test)
 }
 
 // Whether the entry with its head at a place is one of the module's for the item, and is seen.
-fn is_for_seen(db: &Snapshot, from: ModuleId, m: ModuleId, item: Item, h: usize) -> bool
-    requires { (from.0 < db.now.records.layout.modules) × ScopeFits (counts_in db.now.records.layout) (scope_at db.now.records.words.now h) }
-    ensures { result ≡ (is_for (snap_in db.now) m.0 item (scope_at db.now.records.words.now h)
-        && seen_from (snap_in db.now) from.0 (scope_at db.now.records.words.now h)) }
+fn is_for_seen(view: &View, m: ModuleId, item: Item, h: usize) -> bool
+    requires { ScopeFits (counts_in view.now.db.records.layout) (scope_at view.now.db.records.words.now h) }
+    ensures { result ≡ (is_for (snap_in view.now.db) m.0 item (scope_at view.now.db.records.words.now h)
+        && seen_from (snap_in view.now.db) view.now.from.0 (scope_at view.now.db.records.words.now h)) }
 {
-    if is_for(&db.records, h, m, item) {
-        return seen(db, from, h);
+    if is_for(&view.db.records, h, m, item) {
+        return seen(view, h);
     }
     false
 }
 
 /// The first seen entry of a module for an item.
-pub fn entry_for(db: &Snapshot, from: ModuleId, m: ModuleId, item: Item) -> Option<usize>
-    requires { from.0 < db.now.records.layout.modules }
-    ensures { entry_of scope_at db.now.records.words.now result ≡ names_of (snap_in db.now) m.0 item
-        (seen_from (snap_in db.now) from.0) }
+pub fn entry_for(view: &View, m: ModuleId, item: Item) -> Option<usize>
+    ensures { entry_of scope_at view.now.db.records.words.now result ≡ names_of (snap_in view.now.db) m.0 item
+        (seen_from (snap_in view.now.db) view.now.from.0) }
 {
-    let test = |h| is_for_seen(db, from, m, item, h);
-    first_where(scopes(&db.records), test)
+    let test = |h| is_for_seen(view, m, item, h);
+    first_where(scopes(&view.db.records), test)
 }

@@ -7,6 +7,7 @@ ghost use Rattle.tree_rules.specs.Privately.{block_step, module_around, privatel
 ghost use Rattle.nameable.specs.Seen.{holds as holds_of};
 
 use accept::opened::Snapshot;
+use hir_def::View;
 use module_tree::modules::{block, krate, parent};
 use module_tree::visibility::meets;
 use snapshot::ids::{ModuleId, Visibility};
@@ -39,24 +40,24 @@ pub fn module_around(db: &Snapshot, m: ModuleId) -> ModuleId
 }
 
 // Whether what is visible in the target is visible from the viewer.
-fn privately(db: &Snapshot, viewer: ModuleId, target: ModuleId) -> bool
-    requires { (viewer.0 < db.now.records.layout.modules) × (target.0 < db.now.records.layout.modules) }
-    ensures { result ≡ privately_of (snap_in db.now) viewer.0 target.0 }
+fn privately(view: &View, target: ModuleId) -> bool
+    requires { target.0 < view.now.db.records.layout.modules }
+    ensures { result ≡ privately_of (snap_in view.now.db) view.now.from.0 target.0 }
 {
-    let t = module_around(db, target);
-    meets(db, viewer, t)
+    let t = module_around(&view.db, target);
+    meets(&view.db, view.from, t)
 }
 
-/// Whether a visibility holds in the module.
+/// Whether a visibility holds in the viewing module.
 // By the Reference's privacy and not by the walk of `is_visible_from`: what they differ in is stated of two functions.
-pub fn holds(db: &Snapshot, visibility: Visibility, viewer: ModuleId) -> bool
-    requires { (viewer.0 < db.now.records.layout.modules) × (2 ≤ visibility_kind visibility → visibility_number visibility < db.now.records.layout.modules) }
-    ensures { result ≡ holds_of (snap_in db.now) (visibility_kind visibility)
-        (visibility_number visibility) viewer.0 }
+pub fn holds(view: &View, visibility: Visibility) -> bool
+    requires { 2 ≤ visibility_kind visibility → visibility_number visibility < view.now.db.records.layout.modules }
+    ensures { result ≡ holds_of (snap_in view.now.db) (visibility_kind visibility)
+        (visibility_number visibility) view.now.from.0 }
 {
     match visibility {
         Visibility::Public => true,
-        Visibility::InCrate(c) => krate(db, viewer) == c,
-        Visibility::InModule(m) | Visibility::Implied(m) => privately(db, viewer, m),
+        Visibility::InCrate(c) => krate(&view.db, view.from) == c,
+        Visibility::InModule(m) | Visibility::Implied(m) => privately(view, m),
     }
 }

@@ -23,9 +23,9 @@ use Rattle.nameable.proofs.Lists.{by_option}
 use Rattle.nameable.proofs.Reached.{into_means}
 use Rattle.nameable.proofs.Arrives.{arrives_good}
 use Rattle.nameable.proofs.Lookups.{first_mapped, first_same}
-use Rattle.any_path.specs.Rows.{Stays, Grown}
+use Rattle.any_path.specs.Rows.{run_at, Stays, Grown}
 use Rattle.any_path.proofs.Taken.{stays_snap, stays_reads}
-use Rattle.arrivals.specs.Steps.{LeadsTo, Ready}
+use Rattle.arrivals.specs.Steps.{LeadsTo}
 use Rattle.told_paths.specs.declared.ToldPath.{ToldPath}
 use Rattle.told_paths.specs.Tells.{step_link, tell}
 use Rattle.told_paths.proofs.Laws.{told_gone, told_there}
@@ -151,8 +151,8 @@ module _ (W A : List ℕ) (l : Layout) (r : Reads W A l) (from : ℕ) (b : Bool)
   same_snap : snap_of W B l ≡ snap_of W A l
   same_snap = stays_snap W A B l r g.stays
 
-  pub run_ready : Ready b (snap_of W B l) from l.modules B n
-  run_ready = record { rows = g.run; same = g.same ∙ ap (λ (u : Snapshot). run b u from) (sym same_snap) }
+  pub run_same : run_at B n ≡ run b (snap_of W B l) from
+  run_same = g.same ∙ ap (λ (u : Snapshot). run b u from) (sym same_snap)
 
   pub run_reads : Reads W B l
   run_reads = stays_reads W A B l r g.stays

@@ -9,9 +9,8 @@ ghost use Rattle.arrivals.specs.Steps.{Ready};
 ghost use Rattle.told_paths.specs.Tells.{tell};
 
 use crate::told::arrival_told;
-use accept::opened::Snapshot;
-use hir_def::Item;
 use hir_def::items::{first_of, known_kind_of, second_of};
+use hir_def::{Item, View};
 use read_back::lookups::variant_named;
 use snapshot::ids::{DefinitionId, DefinitionKind, ModuleId, Name, Namespace};
 use snapshot::record::member_definition;
@@ -30,52 +29,43 @@ fn is_variant(records: &Records, ns: usize, e: DefinitionId, name: Name, d: Defi
     let Some(h) = variant_named(records, e, name) else {
         return false;
     };
-    let its = member_definition(records.words, h);
-    its.0 == d.0
+    member_definition(records.words, h) == d
 }
 
 // A definition by its enum's first path and its own name.
 // `named` is passed on as it came: the clause is over it.
 fn variant_told(
-    db: &Snapshot,
-    from: ModuleId,
+    view: &View,
     n: usize,
     ns: Namespace,
     d: DefinitionId,
     named: bool,
 ) -> Option<ToldPath>
-    requires { (from.0 < db.now.records.layout.modules) × Ready named (snap_in db.now) from.0
-        db.now.records.layout.modules db.now.area.now n }
-    ensures { result ≡ option_map tell (by_enum named (snap_in db.now) from.0 (defined_item ns.0 d.0)) }
+    requires { Ready named view.now n }
+    ensures { result ≡ option_map tell (by_enum named (snap_in view.now.db) view.now.from.0 (defined_item ns.0 d.0)) }
 {
-    if known_kind_of(&db.records, d) != Some(DefinitionKind::Variant) {
+    let records = &view.db.records;
+    if known_kind_of(records, d) != Some(DefinitionKind::Variant) {
         return None;
     }
-    let e = DefinitionId(first_of(&db.records, d));
-    let name = Name(second_of(&db.records, d));
-    if !is_variant(&db.records, ns.0, e, name, d) {
+    let e = DefinitionId(first_of(records, d));
+    let name = Name(second_of(records, d));
+    if !is_variant(records, ns.0, e, name, d) {
         return None;
     }
     let its = Item::Def(Namespace(Namespace::TYPES), e);
-    let t = arrival_told(db, from, n, its, named)?;
+    let t = arrival_told(view, n, its, named)?;
     Some(more(t, name.0))
 }
 
 /// The path to an item that is a variant, by its enum; none for another item.
 // `named` as in `variant_told`.
-pub(crate) fn enum_told(
-    db: &Snapshot,
-    from: ModuleId,
-    n: usize,
-    item: Item,
-    named: bool,
-) -> Option<ToldPath>
-    requires { (from.0 < db.now.records.layout.modules) × Ready named (snap_in db.now) from.0
-        db.now.records.layout.modules db.now.area.now n }
-    ensures { result ≡ option_map tell (by_enum named (snap_in db.now) from.0 item) }
+pub(crate) fn enum_told(view: &View, n: usize, item: Item, named: bool) -> Option<ToldPath>
+    requires { Ready named view.now n }
+    ensures { result ≡ option_map tell (by_enum named (snap_in view.now.db) view.now.from.0 item) }
 {
     match item {
         Item::Mod(_) => None,
-        Item::Def(ns, d) => variant_told(db, from, n, ns, d, named),
+        Item::Def(ns, d) => variant_told(view, n, ns, d, named),
     }
 }

@@ -13,7 +13,7 @@ use crate::by_enum::enum_told;
 use crate::told::arrival_told;
 use accept::opened::Snapshot;
 use any_path::run::{run_keywords, run_plain};
-use hir_def::Item;
+use hir_def::{Item, View};
 use snapshot::ids::ModuleId;
 use snapshot::records::Records;
 use told_paths::ToldPath;
@@ -21,13 +21,12 @@ use told_paths::paths::shorter;
 
 // A shortest of one kind, over the n rows of their run.
 // `named` says which of two runs stands in the area, as `Ready` and the functions below have it.
-fn shortest_of(db: &Snapshot, from: ModuleId, n: usize, item: Item, named: bool) -> Option<ToldPath>
-    requires { (from.0 < db.now.records.layout.modules) × Ready named (snap_in db.now) from.0
-        db.now.records.layout.modules db.now.area.now n }
-    ensures { result ≡ option_map tell (shortest_of named (snap_in db.now) from.0 item) }
+fn shortest_of(view: &View, n: usize, item: Item, named: bool) -> Option<ToldPath>
+    requires { Ready named view.now n }
+    ensures { result ≡ option_map tell (shortest_of named (snap_in view.now.db) view.now.from.0 item) }
 {
-    let near = arrival_told(db, from, n, item, named);
-    let by = enum_told(db, from, n, item, named);
+    let near = arrival_told(view, n, item, named);
+    let by = enum_told(view, n, item, named);
     shorter(near, by)
 }
 
@@ -42,12 +41,14 @@ pub fn shortest(records: &Records, area: &mut [u32], from: ModuleId, item: Item)
         records: *records,
         area,
     };
-    let a = shortest_of(&db, from, n, item, false);
+    let view = View { db, from };
+    let a = shortest_of(&view, n, item, false);
     let m = run_plain(records, area, from);
     let db = Snapshot {
         records: *records,
         area,
     };
-    let b = shortest_of(&db, from, m, item, true);
+    let view = View { db, from };
+    let b = shortest_of(&view, m, item, true);
     shorter(a, b)
 }

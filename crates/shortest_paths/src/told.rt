@@ -6,26 +6,18 @@ ghost use Rattle.arrivals.specs.Steps.{Ready};
 ghost use Rattle.told_paths.specs.Tells.{tell as tell_of};
 ghost use Rattle.told_paths.specs.declared.ToldPath.{ToldPath};
 
-use accept::opened::Snapshot;
 use arrivals::arrivals::arrive;
-use hir_def::Item;
+use hir_def::{Item, View};
 use snapshot::ids::ModuleId;
 use told_paths::ToldPath;
 use told_paths::paths::tell;
 
 // `named` is passed on as it came, to `arrive`.
-pub(crate) fn arrival_told(
-    db: &Snapshot,
-    from: ModuleId,
-    n: usize,
-    item: Item,
-    named: bool,
-) -> Option<ToldPath>
-    requires { (from.0 < db.now.records.layout.modules) × Ready named (snap_in db.now) from.0
-        db.now.records.layout.modules db.now.area.now n }
-    ensures value { result ≡ option_map tell_of (arrival named (snap_in db.now) from.0 item) }
+pub(crate) fn arrival_told(view: &View, n: usize, item: Item, named: bool) -> Option<ToldPath>
+    requires { Ready named view.now n }
+    ensures value { result ≡ option_map tell_of (arrival named (snap_in view.now.db) view.now.from.0 item) }
     ensures count_bound { IfSome result (λ (t : ToldPath). t.count < 2 ^ 32) }
 {
-    let step = arrive(db, from, n, item, named);
-    tell(db.area, n, step)
+    let step = arrive(view, n, item, named);
+    tell(view.db.area, n, step)
 }

@@ -106,6 +106,7 @@ pub enum DefinitionKind {
 }
 
 // A `match` on the numbers of the format: here a word becomes a variant. A table of variants would need a test of its length, a transmute an unsafe step.
+// `of` and no `TryFrom`, here and for the other kinds: an error would say no more than `None`.
 impl DefinitionKind {
     /// The kind with a number.
     pub fn of(number: usize) -> Option<DefinitionKind>

@@ -1,6 +1,6 @@
 -- The laws of rows.
-use Prim.Native.Nat.{ℕ, suc, ◌+◌, ◌-◌, ◌*◌, ◌/◌, ◌%◌, ◌≤◌, ◌<◌, ◌^◌}
-use mathlib.Core.Path.{◌≡◌, refl, sym, ap, subst, ◌∙◌}
+use Prim.Native.Nat.{ℕ, suc, ◌+◌, ◌-◌, ◌*◌, ◌/◌, ◌%◌, ◌≤◌, ◌<◌}
+use mathlib.Core.Path.{◌≡◌, refl, sym, ap, ap₂, subst, ◌∙◌}
 use mathlib.Core.List.{List, [], ◌++◌}
 use mathlib.Core.Bool.{Bool, true, false, false≢true}
 use mathlib.Core.Logic.{⊎_elim}
@@ -23,18 +23,19 @@ use Rattle.accept.proofs.Bools.{each_rows}
 use Rattle.accept.proofs.Reading.{ranges_read}
 use Rattle.accept.proofs.Valid.{accepted_valid}
 use Rattle.hir_def.specs.Items.{module_item}
-use Rattle.path_choices.specs.declared.Choice.{Choice}
+use Rattle.path_choices.specs.Choices.{Choice}
+use Rattle.path_choices.specs.declared.Choice.{Choice as Path}
+use Rattle.path_choices.specs.Given.{chosen, given}
 use Rattle.find_path.specs.declared.FindPathCtx.{FindPathCtx}
-use Rattle.path_choices.specs.Choices.{via_local, step_by, nothing, push, extended, try_select}
+use Rattle.path_choices.specs.Choices.{via_local, step_by, push, extended}
 use Rattle.find_path.specs.Walk.{has}
-use Rattle.find_path.specs.Local.{offer_entry, importable_name}
+use Rattle.find_path.specs.Local.{importable_name}
 use Rattle.find_path.specs.Search.{search_local}
 use Rattle.search_laws.proofs.Bounds.{Fits, search_local_fits}
 use Rattle.search_laws.proofs.Tables.{same_snap}
 use Rattle.search_laws.specs.Near.{is_some, ruled, locations, imports, near}
 use Rattle.search_laws.proofs.Fewer.{tested, refuted}
 use Rattle.search_laws.proofs.Near.{unfound_nothing}
-use Rattle.search_laws.proofs.Loops.{offer_found}
 use Rattle.search_laws.proofs.Kept.{Made, made}
 use Rattle.distances.specs.Distances.{distance, distances_end}
 use Rattle.local_levels.proofs.Rows.{agree, take_less}
@@ -77,6 +78,13 @@ module _ (c : Choice) where
       (let z : 2 * w + 2 ≡ 2 * last_place c + 2 + 0 = omega arith in z)
       ∙ sym (ap (λ b. row_if b (last_place c) c.has_prelude_segment) e ∙ ap (λ b. row_if true (last_place c) b) t)
 
+-- what is asked of a path that has a row
+abbrev Placed : Choice → Type 0
+Placed c = (0 < c.steps) × (c.steps ≤ 17) × (last_place c < word_limit)
+
+pub placed_some : (o : Option Path) {d : Path} → o ≡ Some d → ((given o).found ≡ true → Placed (given o)) → Placed (chosen d)
+placed_some o e f = subst (λ o. (given o).found ≡ true → Placed (given o)) e f refl
+
 -- the last step of a choice that was extended by an entry
 last_place_lem : (s : Snapshot) (c : Choice) (n h : ℕ) (b : Bool) → length c.route ≡ 17 → c.steps < 17
     → last_place (extended s c n (step_by via_local h) b) ≡ h
@@ -92,26 +100,22 @@ some_is None h = absurd (false≢true h)
 some_is (Some e) h = (e, refl)
 
 -- a choice as a row gives it back
-pub by_row : (s : Snapshot) (x : FindPathCtx) (c : Choice) (e : Scope) (b : Bool) {d : Choice} → c.found ≡ true → d ≡ offer_entry s x nothing c e
-    → flagged d b ≡ extended s c e.name (step_by via_local e.place) b
-unfolding flagged try_select push extended
-by_row s x c e b f q = ap (λ (z : Choice). flagged z b) (q ∙ offer_found s x nothing c e f)
+
+by_row : (s : Snapshot) (c : Choice) (n via : ℕ) (b : Bool) → flagged (push s c n via) b ≡ extended s c n via b
+unfolding flagged push extended
+by_row s c n via b = refl
 
 -- the same, in the code's numbers
-pub row_offer : {b : Choice} → b ≡ nothing → b.count < 2 ^ 32
-row_offer e = subst (λ (z : Choice). z.count < 2 ^ 32) (sym e) (omega arith)
 
-pub row_entry : (W : List ℕ) (l : Layout) {h p : ℕ} → h ≡ p → ScopeFits (counts_in l) (scope_at W p) → ScopeFits (counts_in l) (scope_at W h)
-row_entry W l e f = subst (λ z. ScopeFits (counts_in l) (scope_at W z)) (sym e) f
+pub row_entry : (W : List ℕ) (l : Layout) {h p n : ℕ} → h ≡ p → n ≡ (scope_at W h).name → ScopeFits (counts_in l) (scope_at W p) → n < l.names
+row_entry W l {h} {p} {n} e q f = omega (arith, q ∙ ap (λ z. (scope_at W z).name) e, f.name)
 
-pub row_choice : (W A : List ℕ) (l : Layout) (x : FindPathCtx) (c : Choice) (w : ℕ) {h : ℕ} {b d r : Choice} → h ≡ row_place w
-    → b ≡ nothing → c.found ≡ true
-    → d ≡ offer_entry (snap_of W A l) x b c (scope_at W h) → r ≡ flagged d (row_flag w)
-    → r ≡ extended (snap_of W A l) c (scope_at W (row_place w)).name (step_by via_local (row_place w)) (row_flag w)
-row_choice W A l x c w {h} {b} {d} {r} eh eb f ed er =
-    er
-    ∙ by_row (snap_of W A l) x c (scope_at W (row_place w)) (row_flag w) f
-    (ed ∙ ap (λ (z : Choice). offer_entry (snap_of W A l) x z c (scope_at W h)) eb ∙ ap (λ z. offer_entry (snap_of W A l) x nothing c (scope_at W z)) eh)
+pub row_choice : (s : Snapshot) (W : List ℕ) (c : Choice) (w : ℕ) {h n via : ℕ} {d r : Choice} → h ≡ row_place w
+    → n ≡ (scope_at W h).name → via ≡ step_by via_local h → d ≡ push s c n via → r ≡ flagged d (row_flag w)
+    → r ≡ extended s c (scope_at W (row_place w)).name (step_by via_local (row_place w)) (row_flag w)
+row_choice s W c w {h} {n} {via} eh en ev ed er =
+    er ∙ ap (λ z. flagged z (row_flag w)) ed ∙ by_row s c n via (row_flag w)
+    ∙ ap₂ (λ n via. extended s c n via (row_flag w)) (en ∙ ap (λ z. (scope_at W z).name) eh) (ev ∙ ap (step_by via_local) eh)
 
 module _ (W A : List ℕ) (l : Layout) (r : Reads W A l) (x : FindPathCtx) where
   abbrev S : Snapshot

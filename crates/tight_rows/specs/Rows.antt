@@ -5,7 +5,7 @@ use Rattle.snapshot.specs.Layouts.{snap_of}
 use Rattle.snapshot.specs.declared.layout.Layout.{Layout}
 use Rattle.record_rules.specs.Stands.{counts_in}
 use Rattle.accept.specs.Valid.{ScopeFits}
-use Rattle.path_choices.specs.declared.Choice.{Choice}
+use Rattle.path_choices.specs.Choices.{Choice}
 use Rattle.find_path.specs.declared.FindPathCtx.{FindPathCtx}
 use Rattle.path_choices.specs.Choices.{via_local, step_by, nothing, extended}
 use Rattle.find_path.specs.Walk.{has}

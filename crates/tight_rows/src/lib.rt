@@ -10,6 +10,7 @@ ghost use Rattle.accept.specs.Valid.{ScopeFits};
 ghost use Rattle.accept.specs.Opened.{snap_in};
 ghost use Rattle.hir_def.specs.Items.{same_item, module_item};
 ghost use Rattle.path_choices.specs.Choices.{via_local, step_by, extended};
+ghost use Rattle.path_choices.specs.Given.{chosen, given};
 ghost use Rattle.distances.specs.Distances.{distance};
 ghost use Rattle.local_levels.specs.Levels.{item_at, Chain};
 ghost use Rattle.tight_rows.specs.Rows.{last_place, row_of, row_place, row_flag, flagged as flagged_of};
@@ -17,12 +18,12 @@ ghost use Rattle.tight_rows.specs.Post.{Cleared, Farther, Tight};
 
 use accept::opened::Snapshot;
 use distances::Distances;
-use find_path::{Choice, FindPathCtx};
+use find_path::Choice;
 use local_levels::Stack;
 use local_levels::levels::any_level;
-use path_offers::offers::offer_entry;
-use path_rules::choices::nothing;
+use path_choices::choices::{StepRule, step_by};
 use snapshot::ids::{Area, ModuleId};
+use snapshot::record::scope_name;
 use snapshot::words::word;
 
 /// Where the rows stand, a word a module.
@@ -75,17 +76,17 @@ pub fn is_tight(area: &[u32], s: Stack, left: usize, m: ModuleId) -> bool
 }
 
 /// The row of a choice that ends with a scope entry, or of none.
-pub fn row_of(c: Choice) -> usize
-    requires { c.found ≡ true → (0 < c.steps) × (c.steps ≤ 17) × (last_place c < word_limit) }
-    ensures { (result ≡ row_of c) × (result < 2 ^ 32) }
+pub fn row_of(c: Option<Choice>) -> usize
+    requires { (given c).found ≡ true → (0 < (given c).steps) × ((given c).steps ≤ 17) × (last_place (given c) < word_limit) }
+    ensures { (result ≡ row_of (given c)) × (result < 2 ^ 32) }
 {
-    if !c.found {
+    let Some(d) = c else {
         return 1;
-    }
-    let last = c.steps - 1;
-    let route = c.route;
+    };
+    let last = d.steps - 1;
+    let route = d.route;
     let row = 2 * (route[last] / 8) + 2;
-    if c.has_prelude_segment {
+    if d.has_prelude_segment {
         return row + 1;
     }
     row
@@ -94,7 +95,7 @@ pub fn row_of(c: Choice) -> usize
 // The choice with that flag for `prelude`.
 // The value of the field `has_prelude_segment`, so a bool as this is.
 fn flagged(c: Choice, flag: bool) -> Choice
-    ensures { result ≡ flagged_of c flag }
+    ensures { chosen result ≡ flagged_of (chosen c) flag }
 {
     let mut d = c;
     d.has_prelude_segment = flag;
@@ -110,13 +111,14 @@ pub fn row_place(row: usize) -> usize
 }
 
 /// The choice that a row stands for, from that for the module of its entry.
-// No `From`: a row becomes a choice by the snapshot and the context only.
-pub fn from_row(db: &Snapshot, x: FindPathCtx, c: Choice, row: usize) -> Choice
-    requires { (2 ≤ row) × ScopeFits (counts_in db.now.records.layout) (scope_at db.now.records.words.now (row_place row)) × (c.found ≡ true) × (c.count < 16) × (c.path_text_len < 2 ^ 32) × (c.steps < 17) }
-    ensures { result ≡ extended (snap_in db.now) c (scope_at db.now.records.words.now (row_place row)).name
+// No `From`: a row becomes a choice by the snapshot only.
+pub fn from_row(db: &Snapshot, c: Choice, row: usize) -> Choice
+    requires { (2 ≤ row) × ScopeFits (counts_in db.now.records.layout) (scope_at db.now.records.words.now (row_place row)) × (c.count < 16) × (c.path_text_len < 2 ^ 32) × (c.steps < 17) }
+    ensures { chosen result ≡ extended (snap_in db.now) (chosen c) (scope_at db.now.records.words.now (row_place row)).name
         (step_by via_local (row_place row)) (row_flag row) }
 {
     let h = row_place(row);
-    let d = offer_entry(db, x, nothing(), c, h);
-    flagged(d, row % 2 == 1)
+    let n = scope_name(db.records.words, h);
+    let via = step_by(StepRule::Local, h);
+    flagged(c.push(db, n, via), row % 2 == 1)
 }

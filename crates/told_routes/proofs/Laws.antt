@@ -37,7 +37,7 @@ use Rattle.nameable.proofs.Reached.{each_in, item_in_lem}
 use Rattle.nameable.proofs.Lookups.{named_seen}
 use Rattle.readings.specs.Reads.{extern_named as extern_of_name, is_variant_named, variant_named as first_variant}
 use Rattle.any_path.specs.Plain.{externs_named}
-use Rattle.any_path.proofs.Plains.{entry_item, externs_read, externs_types, externs_others}
+use Rattle.any_path.proofs.Plains.{externs_read, externs_types, externs_others}
 use Rattle.shortest_paths.proofs.Laws.{variant_first}
 use Rattle.told_routes.specs.declared.Meaning.{Meaning}
 use Rattle.told_routes.specs.Routes.{keyword_by, first_path, next_path, meaning_of, Answers}
@@ -65,9 +65,9 @@ place_answered o a = ap (λ (z : Option Meaning). option_map_or (λ (t : Meaning
 
 -- By an entry, and by an extern.
 
-pub answers_entry : (s : Snapshot) (e : Scope) {i : Item} {ns d : ℕ} → i ≡ item_of s ns d → ns ≡ e.ns → d ≡ e.definition
+pub answers_entry : (s : Snapshot) (e : Scope) {i : Item} → i ≡ item_of s e.ns e.definition
     → record { item = i; place = e.place } ≡ meaning_of (as_named s e)
-answers_entry s e ei en ed = ap (λ (z : Item). record { item = z; place = e.place }) (entry_item s e ei en ed)
+answers_entry s e ei = ap (λ (z : Item). record { item = z; place = e.place }) ei
 
 pub answers_extern : (x : Extern) (m : ModuleId) → m.0 ≡ x.target → record { item = Mod m; place = x.place } ≡ meaning_of (extern_named x)
 answers_extern x m e = ap (λ (t : ℕ). record { item = module_item t; place = x.place }) e

@@ -12,21 +12,20 @@ ghost use Rattle.told_routes.specs.Routes.{next_path, meaning_of, Answers};
 use crate::Meaning;
 use accept::opened::Snapshot;
 use any_path::plain::{Reading, read_plain};
-use hir_def::Item;
-use hir_def::items::{definition_head, edition_of, item_of};
+use hir_def::items::{definition_head, edition_of, item_at};
+use hir_def::{Item, View};
 use module_tree::modules::krate;
 use read_back::lookups::{extern_named, variant_named};
 use seen_entries::lookups::entry_named;
 use snapshot::ids::{DefinitionId, ModuleId, Name, Namespace, PathKind};
-use snapshot::record::{extern_target, member_definition, scope_definition, scope_ns};
+use snapshot::record::{extern_target, member_definition};
 use snapshot::records::Records;
 
 // By the entry with its head at a place.
 fn by_entry(records: &Records, h: usize) -> Meaning
     ensures { (A : List ℕ) → result ≡ meaning_of (as_named (snap_by records.now A) (scope_at records.now.words.now h)) }
 {
-    let ns = scope_ns(records.words, h);
-    let item = item_of(records, ns, scope_definition(records.words, h));
+    let item = item_at(records, h);
     Meaning { item, place: h }
 }
 
@@ -42,40 +41,38 @@ fn by_extern(words: &[u32], h: usize) -> Meaning
 }
 
 // A name alone.
-fn read_alone(db: &Snapshot, from: ModuleId, ns: usize, name: Name) -> Option<Meaning>
-    requires { from.0 < db.now.records.layout.modules }
-    ensures { Answers (reads (snap_in db.now) from.0 ns (plain name.0)) result }
+fn read_alone(view: &View, ns: usize, name: Name) -> Option<Meaning>
+    ensures { Answers (reads (snap_in view.now.db) view.now.from.0 ns (plain name.0)) result }
 {
-    let its = match read_plain(db, from, ns, name)? {
-        Reading::Scope(h) => by_entry(&db.records, h),
-        Reading::Extern(h) => by_extern(db.records.words, h),
+    let its = match read_plain(view, ns, name)? {
+        Reading::Scope(h) => by_entry(&view.db.records, h),
+        Reading::Extern(h) => by_extern(view.db.records.words, h),
     };
     Some(its)
 }
 
 // A name after `::`, in edition 2015 none.
-fn read_absolute(db: &Snapshot, from: ModuleId, ns: usize, name: Name) -> Option<Meaning>
-    requires { from.0 < db.now.records.layout.modules }
-    ensures { Answers (reads (snap_in db.now) from.0 ns (absolute name.0)) result }
+fn read_absolute(view: &View, ns: usize, name: Name) -> Option<Meaning>
+    ensures { Answers (reads (snap_in view.now.db) view.now.from.0 ns (absolute name.0)) result }
 {
-    let c = krate(db, from);
-    if edition_of(&db.records, c) == 2015 {
+    let records = &view.db.records;
+    let c = krate(&view.db, view.from);
+    if edition_of(records, c) == 2015 {
         return None;
     }
     if ns != Namespace::TYPES {
         return None;
     }
-    let h = extern_named(&db.records, c, name)?;
-    Some(by_extern(db.records.words, h))
+    let h = extern_named(records, c, name)?;
+    Some(by_extern(records.words, h))
 }
 
 // By a seen entry of the module.
-fn in_module(db: &Snapshot, from: ModuleId, m: ModuleId, ns: usize, name: Name) -> Option<Meaning>
-    requires { from.0 < db.now.records.layout.modules }
-    ensures { Answers (named name.0 (entries_in (snap_in db.now) from.0 ns m.0)) result }
+fn in_module(view: &View, m: ModuleId, ns: usize, name: Name) -> Option<Meaning>
+    ensures { Answers (named name.0 (entries_in (snap_in view.now.db) view.now.from.0 ns m.0)) result }
 {
-    let h = entry_named(db, from, m, ns, name)?;
-    Some(by_entry(&db.records, h))
+    let h = entry_named(view, m, ns, name)?;
+    Some(by_entry(&view.db.records, h))
 }
 
 // By a variant of the enum; the record is the variant's definition.
@@ -95,54 +92,44 @@ fn in_enum(db: &Snapshot, d: DefinitionId, ns: usize, name: Name) -> Option<Mean
 }
 
 // A name after an item.
-fn in_item(db: &Snapshot, from: ModuleId, item: Item, ns: usize, name: Name) -> Option<Meaning>
-    requires { from.0 < db.now.records.layout.modules }
-    ensures { Answers (named name.0 (within (snap_in db.now) from.0 ns item)) result }
+fn in_item(view: &View, item: Item, ns: usize, name: Name) -> Option<Meaning>
+    ensures { Answers (named name.0 (within (snap_in view.now.db) view.now.from.0 ns item)) result }
 {
     match item {
-        Item::Mod(m) => in_module(db, from, m, ns, name),
-        Item::Def(_, d) => in_enum(db, d, ns, name),
+        Item::Mod(m) => in_module(view, m, ns, name),
+        Item::Def(_, d) => in_enum(&view.db, d, ns, name),
     }
 }
 
 // A name after what the names before it mean.
-fn read_after(
-    db: &Snapshot,
-    from: ModuleId,
-    here: Option<Item>,
-    ns: usize,
-    name: Name,
-) -> Option<Meaning>
-    requires { from.0 < db.now.records.layout.modules }
+fn read_after(view: &View, here: Option<Item>, ns: usize, name: Name) -> Option<Meaning>
     ensures { (o : Option Named) → here ≡ item_in o
-        → Answers (after o (λ x. named name.0 (within (snap_in db.now) from.0 ns x))) result }
+        → Answers (after o (λ x. named name.0 (within (snap_in view.now.db) view.now.from.0 ns x))) result }
 {
     let x = here?;
-    in_item(db, from, x, ns, name)
+    in_item(view, x, ns, name)
 }
 
 /// The name number k of a path of that kind, after what the names before it mean.
 pub(crate) fn read_name(
-    db: &Snapshot,
-    from: ModuleId,
+    view: &View,
     kind: PathKind,
     k: usize,
     here: Option<Item>,
     ns: usize,
     name: Name,
 ) -> Option<Meaning>
-    requires { from.0 < db.now.records.layout.modules }
-    ensures { (p : Path) → here ≡ item_in (reads (snap_in db.now) from.0 types p)
-        → Answers (reads (snap_in db.now) from.0 ns (next_path kind k p name.0)) result }
+    ensures { (p : Path) → here ≡ item_in (reads (snap_in view.now.db) view.now.from.0 types p)
+        → Answers (reads (snap_in view.now.db) view.now.from.0 ns (next_path kind k p name.0)) result }
 {
     if 0 < k {
-        return read_after(db, from, here, ns, name);
+        return read_after(view, here, ns, name);
     }
     match kind {
-        PathKind::Plain => read_alone(db, from, ns, name),
-        PathKind::Absolute => read_absolute(db, from, ns, name),
+        PathKind::Plain => read_alone(view, ns, name),
+        PathKind::Absolute => read_absolute(view, ns, name),
         PathKind::SelfModule | PathKind::Super | PathKind::Crate => {
-            read_after(db, from, here, ns, name)
+            read_after(view, here, ns, name)
         }
     }
 }

@@ -8,12 +8,13 @@ ghost use Rattle.told_routes.specs.Routes.{path_by, ns_of_first};
 
 use crate::names::read_name;
 use crate::starts::start;
-use accept::opened::Snapshot;
+use hir_def::View;
 use snapshot::ids::{ModuleId, Name, Namespace};
 use told_paths::ToldPath;
 use told_paths::paths::NameCount;
 
 // Where the last of k names is looked up, of so many.
+// `read_back::looked_in` answers the same over the definition of another list of names, counted from the first.
 // A namespace for the last name and types before it; `wording::chosen` has the shape alone, over texts.
 fn looked_in(ns: usize, k: usize, count: usize) -> usize
     ensures { result ≡ ns_of_first ns count k }
@@ -25,19 +26,19 @@ fn looked_in(ns: usize, k: usize, count: usize) -> usize
 }
 
 // The places of the records by which the names are read.
-fn route_by(db: &Snapshot, from: ModuleId, ns: usize, t: ToldPath) -> [usize; 16]
-    requires { (from.0 < db.now.records.layout.modules) × (t.count ≤ names_limit) }
-    ensures { result ≡ padded (route_of (snap_in db.now) from.0 ns
+fn route_by(view: &View, ns: usize, t: ToldPath) -> [usize; 16]
+    requires { t.count ≤ names_limit }
+    ensures { result ≡ padded (route_of (snap_in view.now.db) view.now.from.0 ns
         (path_by t.kind t.supers t.names t.count)) }
 {
     let names = t.names;
     let kind = t.kind;
     let count = t.count;
-    let mut here = start(db, from, kind, t.supers);
+    let mut here = start(view, kind, t.supers);
     let mut route = [0usize; 16];
     for k in 0..count {
         let its = looked_in(ns, k + 1, count);
-        let x = read_name(db, from, kind, k, here, its, Name(names[k]));
+        let x = read_name(view, kind, k, here, its, Name(names[k]));
         // The route is words for C: 0 for none.
         route[k] = x.map_or(0, |its| its.place);
         here = x.map(|its| its.item);
@@ -46,14 +47,13 @@ fn route_by(db: &Snapshot, from: ModuleId, ns: usize, t: ToldPath) -> [usize; 16
 }
 
 /// The places of the records by which the names of a path are read, the last in the namespace.
-pub fn route_of(db: &Snapshot, from: ModuleId, ns: usize, t: ToldPath) -> [usize; 16]
-    requires { from.0 < db.now.records.layout.modules }
+pub fn route_of(view: &View, ns: usize, t: ToldPath) -> [usize; 16]
     ensures { (p : Path) → t ≡ tell p → names_in p ≤ names_limit
-        → result ≡ padded (route_of (snap_in db.now) from.0 ns p) }
+        → result ≡ padded (route_of (snap_in view.now.db) view.now.from.0 ns p) }
 {
     if NameCount::LIMIT < t.count {
         let none = [0usize; 16];
         return none;
     }
-    route_by(db, from, ns, t)
+    route_by(view, ns, t)
 }

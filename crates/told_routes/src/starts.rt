@@ -6,7 +6,7 @@ ghost use Rattle.nameable.specs.Paths.{keyword, above as module_above, module_na
 ghost use Rattle.told_routes.specs.Routes.{keyword_by};
 
 use accept::opened::Snapshot;
-use hir_def::Item;
+use hir_def::{Item, View};
 use module_tree::modules::{crate_root, parent};
 use seen_entries::privacy::module_around;
 use snapshot::ids::{ModuleId, PathKind};
@@ -25,14 +25,14 @@ fn above(db: &Snapshot, m: ModuleId, supers: usize) -> Option<Item>
 }
 
 /// What a path of that kind means before its first name.
-pub(crate) fn start(db: &Snapshot, from: ModuleId, kind: PathKind, supers: usize) -> Option<Item>
-    requires { from.0 < db.now.records.layout.modules }
-    ensures { result ≡ item_in (reads (snap_in db.now) from.0 types (keyword (keyword_by kind supers))) }
+pub(crate) fn start(view: &View, kind: PathKind, supers: usize) -> Option<Item>
+    ensures { result ≡ item_in (reads (snap_in view.now.db) view.now.from.0 types (keyword (keyword_by kind supers))) }
 {
+    let db = &view.db;
     match kind {
-        PathKind::Crate => Some(Item::Mod(crate_root(db, from))),
+        PathKind::Crate => Some(Item::Mod(crate_root(db, view.from))),
         PathKind::Plain | PathKind::SelfModule | PathKind::Super | PathKind::Absolute => {
-            above(db, module_around(db, from), supers)
+            above(db, module_around(db, view.from), supers)
         }
     }
 }

@@ -14,6 +14,8 @@ impl StateWords {
     pub const ROW: usize = 8;
 }
 
+// No `From`: `row_of` takes a window beside the words, and `windows_of` and `words_of` have the names by which the clauses speak of a state.
+
 /// The row that the words of a window are.
 pub fn row_of(words: [u32; 65], window: Window) -> Row
     ensures { row_words result ≡ row_of words window.number }

@@ -10,7 +10,6 @@ use Rattle.find_path.specs.declared.Question.{Question}
 use Rattle.find_path.specs.declared.Report.{Report}
 use Rattle.find_path.specs.Report.{report_of}
 use Rattle.answer.specs.Answers.{Answers}
-use Rattle.windows.specs.declared.turns.Turn.{Turn}
 use Rattle.window_rules.specs.States.{asked_by, waiting, with_row, served, place_fault, placed_unless, after_place, after_serving, after_turn}
 use Rattle.windows.specs.Windows.{Placed, idle_turn, serving_turn, turn_of, area_turned, Turned}
 
@@ -33,11 +32,11 @@ module _ (S : List ℕ) (w : ℕ) (q : Question) (n : ℕ) (e : n ≡ place_faul
 -- a turn
 
 module _ (S W A : List ℕ) (w : ℕ) (e : w ≡ served S) where
-  pub turned_not : w ≡ 8 → (r : Turn) → r ≡ idle_turn → Turned S W A S A r
+  pub turned_not : w ≡ 8 → Turned S W A S A idle_turn
   unfolding turn_of area_turned after_turn
-  turned_not h r k =
+  turned_not h =
       let t : eqb (served S) 8 ≡ true = eq-eqb (served S) 8 (sym e ∙ h) in
-      record { turn = k ∙ sym (rw (turn_of, t)); state = sym (rw (after_turn, t)); area = sym (rw (area_turned, t)) }
+      record { turn = sym (rw (turn_of, t)); state = sym (rw (after_turn, t)); area = sym (rw (area_turned, t)) }
 
   module _ (h : w ≡ 8 → ⊥) (q : Question) (a : q ≡ asked_by S w) (B : List ℕ) (p : Report) (k : Answers W A q B p) where
     pub turned_so : (T : List ℕ) → T ≡ after_serving S w → Turned S W A T B (record { idle = false; window = w; report = p })

@@ -11,10 +11,9 @@ use Rattle.find_path.specs.declared.Question.{Question}
 use Rattle.find_path.specs.Report.{flag}
 use Rattle.find_path.proofs.Worked.{passes}
 use Rattle.reports.specs.Written.{report_words}
-use Rattle.windows.specs.declared.turns.Turn.{Turn}
 use Rattle.window_rules.specs.States.{with_row, waits, asked_by, waiting, place_fault, placed_unless, after_place, first_from, served, after_serving}
 use Rattle.window_rules.specs.States.{after_turn}
-use Rattle.windows.specs.Windows.{idle_turn, serving_turn, turn_of}
+use Rattle.windows.specs.Windows.{Turn, idle_turn, serving_turn, turn_of}
 use Rattle.windows.specs.Runs.{empty_state, Operation, placing, turning, after_one, after_run}
 
 -- a turn as words: idle 0 or 1, the window, the report

@@ -1,11 +1,12 @@
 -- What placing a question and a turn promise.
-use Rattle.std.specs.Prelude.{ℕ, ◌≡◌, true, false, List, eqb, length, Result, Ok, Err}
+use Rattle.std.specs.Prelude.{ℕ, ◌≡◌, Bool, true, false, List, eqb, length, Result, Ok, Err, Option, None, Some}
 use Rattle.snapshot.specs.declared.refusal.Refusal.{Refusal}
 use Rattle.window_state.specs.declared.rows.Windows.{Windows}
 use Rattle.find_path.specs.declared.Question.{Question}
+use Rattle.find_path.specs.declared.Report.{Report}
 use Rattle.find_path.specs.Report.{refused, report_of}
 use Rattle.answer.specs.Answers.{area_after}
-use Rattle.windows.specs.declared.turns.Turn.{Turn}
+use Rattle.windows.specs.declared.turns.Served.{Served}
 use Rattle.window_rules.specs.States.{place_fault, after_place, asked_by, served, after_turn}
 
 -- S₀ is the state before the call, S after it; r is the number of the refusal
@@ -18,6 +19,12 @@ abbrev pub left : Windows → Result Windows Refusal → Windows
 left w (Ok v) = v
 left w (Err k) = w
 
+-- a turn: idle, or the window that was served and the report of its question
+pub record Turn : Type 0 where
+  pub idle : Bool
+  pub window : ℕ
+  pub report : Report
+
 -- no window, and a report that is neither a path nor none
 unfoldable pub idle_turn : Turn
 idle_turn = record { idle = true; window = 8; report = refused 0 }
@@ -25,6 +32,11 @@ idle_turn = record { idle = true; window = 8; report = refused 0 }
 -- a window, and the report of its question put alone
 unfoldable pub serving_turn : List ℕ → List ℕ → ℕ → ℕ → Turn
 serving_turn S W area w = record { idle = false; window = w; report = report_of W area (asked_by S w) }
+
+-- what is told of what a turn served
+abbrev pub told : Option Served → Turn
+told None = idle_turn
+told (Some r) = record { idle = false; window = r.window.number; report = r.report }
 
 -- what a turn gives in the state S, on the words W, with a work area of so many words
 unfoldable pub turn_of : List ℕ → List ℕ → ℕ → Turn

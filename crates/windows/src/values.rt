@@ -2,9 +2,9 @@
 ghost use Rattle.snapshot.specs.Refusals.{fault_number};
 ghost use Rattle.questions.specs.Questions.{question_of};
 ghost use Rattle.window_state.specs.Words.{words_of};
-ghost use Rattle.windows.specs.Windows.{Placed, Turned, left};
+ghost use Rattle.windows.specs.Windows.{Placed, Turned, left, told};
 
-use crate::turns::{Turn, Turning, idle_turn};
+use crate::turns::{Served, Turning};
 use answer::answer::find_path;
 use snapshot::kind::Size;
 use snapshot::refusal::Refusal;
@@ -23,20 +23,20 @@ pub fn placed(
     Ok(with_question(windows, free, question))
 }
 
-/// The state after a turn, and the turn.
+/// The state after a turn, and what it served.
 pub fn turned(windows: Windows, words: &[u32], area: &mut [u32]) -> Turning
-    ensures { Turned (words_of windows) words.now area.old (words_of result.windows) area.new result.turn }
+    ensures { Turned (words_of windows) words.now area.old (words_of result.windows) area.new (told result.served) }
 {
     let Some(window) = next_waiting(windows) else {
-        let turn = idle_turn();
-        return Turning { windows, turn };
+        return Turning {
+            windows,
+            served: None,
+        };
     };
     let report = find_path(words, area, asked_by(windows, window));
     let windows = after_serving(windows, window);
-    let turn = Turn {
-        idle: false,
-        window: window.number,
-        report: report,
-    };
-    Turning { windows, turn }
+    Turning {
+        windows,
+        served: Some(Served { window, report }),
+    }
 }

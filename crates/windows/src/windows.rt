@@ -2,9 +2,9 @@
 ghost use Rattle.snapshot.specs.Refusals.{fault_number};
 ghost use Rattle.questions.specs.Questions.{question_of};
 ghost use Rattle.window_state.specs.Words.{words_of};
-ghost use Rattle.windows.specs.Windows.{Placed, Turned};
+ghost use Rattle.windows.specs.Windows.{Placed, Turned, told};
 
-use crate::turns::Turn;
+use crate::turns::Served;
 use crate::values::{placed, turned};
 use snapshot::kind::Size;
 use snapshot::refusal::Refusal;
@@ -24,12 +24,12 @@ pub fn place(
 }
 
 /// Serves the next window that waits, counting round from the one after that served last, on the words of a snapshot: its question
-/// waits no more. The work area is left as `find_path` leaves it. Where no question waits, the turn is idle and changes nothing.
-pub fn turn(windows: &mut Windows, words: &[u32], area: &mut [u32]) -> Turn
+/// waits no more. The work area is left as `find_path` leaves it. Where no question waits, it serves none and changes nothing.
+pub fn turn(windows: &mut Windows, words: &[u32], area: &mut [u32]) -> Option<Served>
     ensures { Turned (words_of windows.old) words.now area.old
-        (words_of windows.new) area.new result }
+        (words_of windows.new) area.new (told result) }
 {
     let t = turned(*windows, words, area);
     *windows = t.windows;
-    t.turn
+    t.served
 }

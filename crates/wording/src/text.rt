@@ -17,6 +17,7 @@ impl TextBytes {
 }
 
 /// The text, where the two numbers are the same, or the other.
+// The shape of `told_routes::looked_in`, of texts: no more is left of either than the test.
 pub fn chosen<'a>(n: u32, m: u32, text: &'a [u8], other: &'a [u8]) -> &'a [u8]
     ensures { result.now ≡ choose n m text.now other.now }
 {
@@ -27,8 +28,8 @@ pub fn chosen<'a>(n: u32, m: u32, text: &'a [u8], other: &'a [u8]) -> &'a [u8]
 }
 
 // What a refusal's number means; a number with no meaning of its own has that of an area.
-// By numbers: `put_refusal` takes any, and there is no `Refusal` for the others. A row of `chosen`, as the definition is a row of `choose`: a `match`
-// of eleven numbers would be proved against it case by case.
+// By numbers: `put_refusal` takes any, and there is no `Refusal` for the others. A row of `chosen`: `Refusal::Form as u32` is no pattern, so a `match`
+// would have a guard in each of ten arms, and be no plainer.
 fn meaning(n: u32) -> &'static [u8]
     ensures { result.now ≡ meaning n }
 {

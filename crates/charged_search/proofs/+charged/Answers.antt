@@ -1,4 +1,4 @@
-use Prim.Native.Nat.{ℕ, ◌+◌, ◌-◌, ◌*◌}
+use Prim.Native.Nat.{ℕ, ◌+◌, ◌*◌}
 use native.Mathlib.Omega.{arith}
 use mathlib.Core.Path.{refl, sym, ap, ◌∙◌, subst}
 use mathlib.Core.List.{List}
@@ -14,11 +14,12 @@ use Rattle.hir_def.specs.Entries.{entry_of}
 use Rattle.hir_def.proofs.Lookups.{next_record, next_none, imports_whole}
 use Rattle.hir_def.proofs.Fits.{few_words, import_meets}
 use Rattle.crate_graph.specs.Among.{among}
-use Rattle.find_path.specs.Charged.{found_of, is_stable}
+use Rattle.path_choices.specs.Given.{given}
+use Rattle.find_path.specs.Charged.{found_of, out_of, given_found, is_stable}
 use Rattle.find_path.specs.Conditions.{Searched}
 use Rattle.search_laws.proofs.Unfold.{length_falls}
 use Rattle.search_laws.proofs.Tables.{same_reads}
-use Rattle.charged_search.specs.Parts.{out_of, imports, dependencies, sysroot}
+use Rattle.charged_search.specs.Parts.{imports, dependencies, sysroot}
 use Rattle.charged_search.proofs.Parts.{at_home, module_ns, module_none, module_found, module_charged, best_empty, best_charged, go_here}
 use Rattle.charged_search.proofs.Parts.{go_sysroot, go_dependencies, lang_stable, lang_none, lang_some, rest_stable, import_hidden}
 use Rattle.charged_search.proofs.Holding.{offered, charge_sum, module_small, held_nothing, home_below}
@@ -51,7 +52,7 @@ calculate_best_path-returns-in-Err t c =
     let a = c.args in
     record {
       same = best_empty (snap_by a.records.now a.area.now) a.x a.left a.item a.t
-          c.charge.ensures c.in-Err.is c.nothing-choice.ensures;
+          c.charge.ensures c.in-Err.is;
       tables = refl;
     }
 
@@ -79,10 +80,10 @@ pub find_import-find_path_for_module-r-requires : goal.find_import-find_path_for
 find_import-find_path_for_module-r-requires t c =
     let a = c.args in
     let g = c.requires.0 in
-    let k = length_falls a.left a.o.choice g.some in
+    let k = length_falls a.left (given a.o.choice) g.some in
     let e = c.length_left-n.ensures in (
       omega (arith, c.decreases, k, e),
-      (g.ready, omega (arith, c.import_container.ensures, c.requires.1), omega (arith, k, e, g.limit), c.requires.3.tank),
+      (g.ready, omega (arith, c.import_container-m.ensures, c.requires.1), omega (arith, k, e, g.limit), c.requires.3.tank),
     )
 
 pub find_import-invariant_of-db : goal.find_import-invariant_of-db
@@ -93,8 +94,8 @@ find_import-offer_import-choice-requires t c =
     let a = c.args in
     let g = c.requires.0 in
     let f = c.find_path_for_module-r in
-    let k = length_falls a.left a.o.choice g.some in
-    let q = offered a.records.now.words.now a.area.now a.records.now.layout a.x a.left _ _ _ f.result g.ready.reads g.limit
+    let k = length_falls a.left (given a.o.choice) g.some in
+    let q = offered a.records.now.words.now a.area.now a.records.now.layout a.x a.left _ _ _ (given_found f.result) g.ready.reads g.limit
     (omega (arith, k, c.length_left-n.ensures)) f.ensures.same in (
       c.requires.2,
       omega (arith, c.requires.3.few, g.limit),
@@ -111,7 +112,7 @@ find_import-returns t c =
     (sym c.is_hidden.ensures
     ∙ c.if-is_hidden.false)
     c.length_left-n.ensures
-    c.import_container.ensures f.ensures c.offer_import-choice.ensures
+    c.import_container-m.ensures f.ensures c.offer_import-choice.ensures
 
 pub find_in_dep-loop-next-init : goal.find_in_dep-loop-next-init
 find_in_dep-loop-next-init t c =
@@ -305,7 +306,7 @@ find_in_sysroot-returns t c =
     let f3 = c.find_in_lang-c in
     let n = c.langs_for-langs in
     subst (λ (ls : List ℕ). Searched a.area.now (sysroot (snap_by a.records.now a.area.now) a.x a.left
-    a.item (out_of a.o) ls (is_stable a.o.choice)) c.find_in_rest.new.area c.find_in_rest.result) n.ensures
+    a.item (out_of a.o) ls (is_stable (given a.o.choice))) c.find_in_rest.new.area c.find_in_rest.result) n.ensures
     (lang_run a.left a.item _ _ a.o c.requires.0.ready c.find_in_lang-a.ensures
     (lang_run a.left a.item _ _ c.find_in_lang-a.result p1.begun.ready c.find_in_lang-b.ensures
     (lang_run a.left a.item _ _ c.find_in_lang-b.result p2.begun.ready f3.ensures c.find_in_rest.ensures)))
@@ -315,16 +316,16 @@ find_path_for_module-returns-then-left-eq0 t c =
     let a = c.args in
     record {
       same = module_none (snap_by a.records.now a.area.now) a.x a.left a.m.0 a.t
-          c.if-left-eq0.true c.nothing-choice.ensures;
+          c.if-left-eq0.true;
       tables = refl;
     }
 
-pub find_path_for_module-returns-then-choice : goal.find_path_for_module-returns-then-choice
-find_path_for_module-returns-then-choice t c =
+pub find_path_for_module-returns-in-Some : goal.find_path_for_module-returns-in-Some
+find_path_for_module-returns-in-Some t c =
     let a = c.args in
     record {
       same = module_found (snap_by a.records.now a.area.now) a.x a.left a.m.0 a.t
-          c.if-left-eq0.false c.module_rules-choice.ensures c.if-choice.true;
+          c.if-left-eq0.false c.in-Some.ensures refl;
       tables = refl;
     }
 
@@ -350,7 +351,7 @@ find_path_for_module-returns t c =
     record {
       same = f.ensures.same ∙ ap found_of (module_charged (snap_by a.records.now a.area.now) a.x a.left
           a.m.0 a.t c.if-left-eq0.false
-          c.module_rules-choice.ensures c.if-choice.false);
+          c.in_default.ensures refl);
       tables = f.ensures.tables;
     }
 
@@ -375,7 +376,7 @@ search_charged-returns-then-is_at t c =
 pub search_charged-find_in_sysroot-requires : goal.search_charged-find_in_sysroot-requires
 search_charged-find_in_sysroot-requires t c =
     let a = c.args in
-    (omega (arith, c.decreases), (c.requires.0, held_nothing a.left a.t c.nothing-choice.ensures c.requires.2))
+    (omega (arith, c.decreases), (c.requires.0, held_nothing a.left a.t c.requires.2))
 
 pub search_charged-returns-then-x : goal.search_charged-returns-then-x
 search_charged-returns-then-x t c =
@@ -383,7 +384,7 @@ search_charged-returns-then-x t c =
     let f = c.find_in_sysroot in
     record {
       same = f.ensures.same ∙ ap found_of (go_sysroot (snap_by a.records.now a.area.now) a.x a.left a.item
-          a.t c.nothing-choice.ensures
+          a.t
           (at_home (snap_by a.records.now a.area.now) a.item a.x.from_crate.0
           (c.home_of-home.ensures a.area.now)
           c.is_at.ensures
@@ -394,7 +395,7 @@ search_charged-returns-then-x t c =
 pub search_charged-find_in_deps-requires : goal.search_charged-find_in_deps-requires
 search_charged-find_in_deps-requires t c =
     let a = c.args in
-    (omega (arith, c.decreases), (c.requires.0, held_nothing a.left a.t c.nothing-choice.ensures c.requires.2))
+    (omega (arith, c.decreases), (c.requires.0, held_nothing a.left a.t c.requires.2))
 
 pub search_charged-returns : goal.search_charged-returns
 unfolding dependencies_of
@@ -403,7 +404,7 @@ search_charged-returns t c =
     let f = c.find_in_deps in
     record {
       same = f.ensures.same ∙ ap found_of (go_dependencies (snap_by a.records.now a.area.now) a.x a.left
-          a.item a.t c.nothing-choice.ensures
+          a.item a.t
           (at_home (snap_by a.records.now a.area.now) a.item a.x.from_crate.0
           (c.home_of-home.ensures a.area.now)
           c.is_at.ensures

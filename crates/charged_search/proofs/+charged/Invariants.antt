@@ -6,7 +6,8 @@ use Rattle.hir_def.specs.Finds.{select}
 use Rattle.crate_graph.specs.Among.{among}
 use Rattle.hir_def.specs.ImportMap.{is_import, import_info_for}
 use Rattle.hir_def.specs.Entries.{left_of}
-use Rattle.charged_search.specs.Parts.{out_of, imports, dependencies}
+use Rattle.find_path.specs.Charged.{out_of}
+use Rattle.charged_search.specs.Parts.{imports, dependencies}
 use Rattle.charged_search.proofs.Runs.{Running}
 use Rattle.snapshot.specs.Laid.{snap_by}
 use Rattle.charged_search.proofs.+charged.Given as goal

@@ -1,21 +1,22 @@
+use mathlib.Core.Path.{sym, ◌∙◌}
 use native.Mathlib.Omega.{arith}
+use borrow.Author.Tests.{eqb-false, not-true}
 use Rattle.distances.proofs.Lowering.{lowers_same}
 use Rattle.distances.proofs.Marking.{entry_other, entry_plain, entry_below, entry_marked}
 use Rattle.distances.proofs.mark_entry.Goals as goal
 
-pub returns-then-owner-c : goal.returns-then-owner-c
-returns-then-owner-c c = (
+pub returns-then-ne : goal.returns-then-ne
+returns-then-ne c = (
   lowers_same _,
   entry_other c.args.records.now.words.now c.args.area.now c.args.records.now.layout c.args.c.0 c.args.h
-      c.scope_owner-owner.ensures c.if-owner-c.true,
+      c.scope_owner.ensures (eqb-false _ _ (not-true _ (sym c.ne.ensures ∙ c.if-ne.true))),
 )
 
 pub returns-in_default : goal.returns-in_default
 returns-in_default c =
     let A = c.args.area.now in (
       lowers_same _,
-      entry_plain c.args.records.now.words.now A c.args.records.now.layout c.args.c.0 c.args.h (c.item_of-item.ensures A)
-          c.scope_ns.ensures c.scope_definition.ensures c.in_default.is,
+      entry_plain c.args.records.now.words.now A c.args.records.now.layout c.args.c.0 c.args.h (c.item_at.ensures A) c.in_default.is,
     )
 
 pub mark-requires : goal.mark-requires
@@ -24,7 +25,7 @@ mark-requires c =
       arith,
       c.requires.0.reads.tables.limited.modules,
       entry_below c.args.records.now.words.now A c.args.records.now.layout
-          c.args.c.0 c.args.h (c.item_of-item.ensures A) c.scope_ns.ensures c.scope_definition.ensures
+          c.args.c.0 c.args.h (c.item_at.ensures A)
           c.requires.0.reads c.requires.1 c.in-Mod.is,
     )
 
@@ -32,6 +33,5 @@ pub returns : goal.returns
 returns c =
     let A = c.args.area.now in (
       c.mark.ensures.0,
-      entry_marked c.args.records.now.words.now A c.args.records.now.layout c.args.c.0 c.args.h (c.item_of-item.ensures A)
-          c.scope_ns.ensures c.scope_definition.ensures c.mark.new.area c.in-Mod.is c.mark.ensures.1,
+      entry_marked c.args.records.now.words.now A c.args.records.now.layout c.args.c.0 c.args.h (c.item_at.ensures A) c.mark.new.area c.in-Mod.is c.mark.ensures.1,
     )

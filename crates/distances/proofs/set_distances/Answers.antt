@@ -1,4 +1,3 @@
-use native.Mathlib.Omega.{arith}
 use mathlib.Core.Path.{sym, ◌∙◌}
 use Rattle.distances.proofs.Relaxing.{weight_falls, settling_ready, settling_start, settling_end, settling_reads}
 use Rattle.distances.proofs.Relaxing.{settling_next, settling_done}

@@ -18,8 +18,8 @@ returns-then-out-n c = let a = c.args in record {
   named = named a.words.now a.tables.now a.name;
 }
 
-pub copy_text-requires : goal.copy_text-requires
-copy_text-requires c =
+pub put_text-requires : goal.put_text-requires
+put_text-requires c =
     (omega (arith, c.if-out-n.false), held_within c.text_at-text.result.now c.payload.result _ c.held-n.ensures)
 
 pub returns : goal.returns
@@ -28,6 +28,6 @@ returns c = let a = c.args in record {
       c.payload.result
       c.name_head-head.result c.if-tables-name.false c.name_head-head.ensures c.text_at-text.ensures c.payload.ensures
       c.held-n.ensures
-      c.if-out-n.false _ c.copy_text.ensures;
+      c.if-out-n.false c.put_text.ensures.put c.put_text.ensures.value;
   named = named a.words.now a.tables.now a.name;
 }

@@ -10,6 +10,7 @@ use Rattle.local_search.proofs.Searches.{module_small, search_none, search_rules
 use Rattle.local_search.proofs.Searches.{location_shorter, location_call, location_reads, location_few, location_text, location_steps}
 use Rattle.local_search.proofs.Searches.{location_some, entry_at, tight_none, made_asked, made_done, row_two, row_entered, owner_known}
 use Rattle.local_search.proofs.Searches.{owner_call, owner_reads, owner_found, owner_few, owner_steps, owner_text, owner_done}
+use Rattle.path_choices.specs.Given.{given}
 use Rattle.snapshot.specs.Laid.{snap_by}
 use Rattle.local_search.proofs.+find_path_for_module_local_local_at_location_tight_at.Goals as goal
 
@@ -17,18 +18,17 @@ pub find_path_for_module_local-returns-then-left-eq0 : goal.find_path_for_module
 find_path_for_module_local-returns-then-left-eq0 t c =
     record {
       same = search_none (snap_by c.args.records.now c.args.area.now) c.args.x c.args.left
-          (levels_of c.args.area.now c.args.s.place c.args.s.depth) c.args.m.0 c.if-left-eq0.true
-          c.nothing.ensures;
+          (levels_of c.args.area.now c.args.s.place c.args.s.depth) c.args.m.0 c.if-left-eq0.true;
       below = refl;
       rows = c.requires.0.rows;
     }
 
-pub find_path_for_module_local-returns-then-c : goal.find_path_for_module_local-returns-then-c
-find_path_for_module_local-returns-then-c t c =
+pub find_path_for_module_local-returns-in-Some : goal.find_path_for_module_local-returns-in-Some
+find_path_for_module_local-returns-in-Some t c =
     record {
       same = search_rules (snap_by c.args.records.now c.args.area.now) c.args.x c.args.left
           (levels_of c.args.area.now c.args.s.place c.args.s.depth) c.args.m.0 c.if-left-eq0.false
-          (c.rules_at-c.ensures.same c.if-c.true) c.if-c.true;
+          c.in-Some.ensures refl;
       below = refl;
       rows = c.requires.0.rows;
     }
@@ -49,8 +49,7 @@ find_path_for_module_local-tight_at-requires t c =
         c.requires.0,
         c.requires.1,
         c.is_tight.ensures c.if-is_tight.true,
-        unruled
-            (snap_by c.args.records.now c.args.area.now) c.args.x c.args.m.0 c.rules_at-c.ensures.found c.if-c.false,
+        unruled (snap_by c.args.records.now c.args.area.now) c.args.x c.args.m.0 c.in_default.ensures,
       ),
     )
 
@@ -74,7 +73,7 @@ find_path_for_module_local-returns t c =
     record {
       same = search_on (snap_by c.args.records.now c.args.area.now) c.args.x c.args.left
           (levels_of c.args.area.now c.args.s.place c.args.s.depth) c.args.m.0 c.if-left-eq0.false
-          c.rules_at-c.ensures.found c.if-c.false c.local_at.ensures.same;
+          (unruled (snap_by c.args.records.now c.args.area.now) c.args.x c.args.m.0 c.in_default.ensures) c.local_at.ensures.same;
       below = c.local_at.ensures.below;
       rows =
           c.local_at.ensures.rows;
@@ -123,7 +122,7 @@ pub local_at-loop-k-init : goal.local_at-loop-k-init
 local_at-loop-k-init t c =
     nesting_start c.args.records.now.words.now c.args.area.now c.args.records.now.layout c.args.x c.args.left c.args.sought.item c.args.s
     c.requires.0 c.requires.1 c.args.sought.small c.code_of-code.result c.code_of-code.ensures.0 _ _ c.locations-n.ensures
-    c.locations-n.auto.area c.nothing-best.ensures
+    c.locations-n.auto.area
 
 pub local_at-bounds-area-cursor : goal.local_at-bounds-area-cursor
 local_at-bounds-area-cursor t c =
@@ -171,7 +170,7 @@ pub location-returns-then-j-word : goal.location-returns-then-j-word
 location-returns-then-j-word t c =
     record {
       same = location_far c.args.records.now.words.now c.args.area.now c.args.records.now.layout c.args.x c.args.left c.args.s
-          c.requires.0 c.requires.1 c.args.best c.args.sought.item c.args.m.0 c.requires.2 c.length_left-j.ensures
+          c.requires.0 c.requires.1 (given c.args.best) c.args.sought.item c.args.m.0 c.requires.2 c.length_left-j.ensures
           c.word.ensures c.if-j-word.true;
       below = refl;
       rows = c.requires.1.rows;
@@ -181,7 +180,7 @@ pub location-returns-in_default : goal.location-returns-in_default
 location-returns-in_default t c =
     record {
       same = location_none c.args.records.now.words.now c.args.area.now c.args.records.now.layout c.args.x c.args.left c.args.s
-          c.requires.0 c.requires.1 c.args.best c.args.sought.item c.args.m.0 c.importable_name-a.ensures.0
+          c.requires.0 c.requires.1 (given c.args.best) c.args.sought.item c.args.m.0 c.importable_name.ensures.0
           c.in_default.is;
       below = refl;
       rows = c.requires.1.rows;
@@ -193,11 +192,11 @@ location-find_path_for_module_local-c-requires t c = (
     arith,
     c.decreases,
     location_shorter c.args.records.now.words.now c.args.area.now c.args.records.now.layout c.args.x c.args.left
-        c.args.s c.requires.0 c.requires.1 c.args.best c.args.sought.item c.args.m.0 c.length_left-j.ensures,
+        c.args.s c.requires.0 c.requires.1 (given c.args.best) c.args.sought.item c.args.m.0 c.length_left-j.ensures,
   ),
   (
     location_call c.args.records.now.words.now c.args.area.now c.args.records.now.layout c.args.x c.args.left c.args.s
-        c.requires.0 c.requires.1 c.args.best c.args.sought.item c.args.m.0 c.length_left-j.ensures,
+        c.requires.0 c.requires.1 (given c.args.best) c.args.sought.item c.args.m.0 c.length_left-j.ensures,
     c.requires.2,
   ),
 )
@@ -205,29 +204,29 @@ location-find_path_for_module_local-c-requires t c = (
 pub location-invariant_of-db-2 : goal.location-invariant_of-db-2
 location-invariant_of-db-2 t c = record {
   reads = location_reads c.args.records.now.words.now c.args.area.now c.args.records.now.layout c.args.x c.args.left c.args.s c.requires.0
-      c.requires.1 c.args.best c.args.sought.item c.args.m.0 c.length_left-j.ensures _ c.find_path_for_module_local-c.ensures;
+      c.requires.1 (given c.args.best) c.args.sought.item c.args.m.0 c.length_left-j.ensures _ c.find_path_for_module_local-c.ensures;
 }
 
 pub location-offer_entry-requires : goal.location-offer_entry-requires
 location-offer_entry-requires t c = (
-  entry_at c.args.records.now.words.now c.args.records.now.layout c.importable_name-a.ensures.1 c.in-Some.is,
+  entry_at c.args.records.now.words.now c.args.records.now.layout c.importable_name.ensures.1 c.in-Some.is,
   c.requires.3,
   location_few
       c.args.records.now.words.now c.args.area.now c.args.records.now.layout c.args.x c.args.left c.args.s c.requires.0
-      c.requires.1 c.args.best c.args.sought.item c.args.m.0 c.length_left-j.ensures _ c.find_path_for_module_local-c.ensures,
+      c.requires.1 (given c.args.best) c.args.sought.item c.args.m.0 c.length_left-j.ensures _ c.find_path_for_module_local-c.ensures,
   location_text c.args.records.now.words.now c.args.area.now c.args.records.now.layout c.args.x c.args.left c.args.s
-      c.requires.0 c.requires.1 c.args.best c.args.sought.item c.args.m.0 c.length_left-j.ensures _
+      c.requires.0 c.requires.1 (given c.args.best) c.args.sought.item c.args.m.0 c.length_left-j.ensures _
       c.find_path_for_module_local-c.ensures,
   location_steps c.args.records.now.words.now c.args.area.now c.args.records.now.layout
-      c.args.x c.args.left c.args.s c.requires.0 c.requires.1 c.args.best c.args.sought.item c.args.m.0
+      c.args.x c.args.left c.args.s c.requires.0 c.requires.1 (given c.args.best) c.args.sought.item c.args.m.0
       c.length_left-j.ensures _ c.find_path_for_module_local-c.ensures,
 )
 
 pub location-returns : goal.location-returns
 location-returns t c =
     location_some c.args.records.now.words.now c.args.area.now c.args.records.now.layout c.args.x c.args.left c.args.s c.requires.0
-    c.requires.1 c.args.best c.args.sought.item c.args.m.0 c.length_left-j.ensures _ c.find_path_for_module_local-c.ensures
-    c.importable_name-a.ensures.0 c.in-Some.is c.offer_entry.ensures
+    c.requires.1 (given c.args.best) c.args.sought.item c.args.m.0 c.length_left-j.ensures _ c.find_path_for_module_local-c.ensures
+    c.importable_name.ensures.0 c.in-Some.is c.offer_entry.ensures
 
 pub tight_at-invariant_of-sought : goal.tight_at-invariant_of-sought
 tight_at-invariant_of-sought t c = record {
@@ -257,15 +256,15 @@ tight_at-returns-then-row-eq0 t c =
 pub tight_at-returns-then-row-eq1 : goal.tight_at-returns-then-row-eq1
 tight_at-returns-then-row-eq1 t c =
     tight_none c.args.records.now.words.now c.args.area.now c.args.records.now.layout c.args.x c.args.left c.args.s c.requires.1
-    c.args.m.0 c.requires.2 c.requires.3 c.word-row.ensures c.if-row-eq1.true c.nothing.ensures
+    c.args.m.0 c.requires.2 c.requires.3 c.word-row.ensures c.if-row-eq1.true
 
 pub tight_at-row_place-requires : goal.tight_at-row_place-requires
 tight_at-row_place-requires t c =
     row_two c.args.records.now.words.now c.args.area.now c.args.records.now.layout c.args.x c.args.left c.args.s c.requires.1
     c.args.m.0 c.requires.2 c.requires.3 c.word-row.ensures c.if-row-eq0.false c.if-row-eq1.false
 
-pub tight_at-find_path_for_module_local-c-requires : goal.tight_at-find_path_for_module_local-c-requires
-tight_at-find_path_for_module_local-c-requires t c =
+pub tight_at-find_path_for_module_local-requires : goal.tight_at-find_path_for_module_local-requires
+tight_at-find_path_for_module_local-requires t c =
     let q = c.scope_owner-owner.ensures ∙ ap (λ z. (scope_at c.args.records.now.words.now z).owner) c.row_place.ensures in (
       omega (arith, c.decreases, c.requires.0),
       (
@@ -278,41 +277,52 @@ tight_at-find_path_for_module_local-c-requires t c =
       ),
     )
 
+pub tight_at-returns-in_err-c : goal.tight_at-returns-in_err-c
+tight_at-returns-in_err-c t c =
+    let q = c.scope_owner-owner.ensures ∙ ap (λ z. (scope_at c.args.records.now.words.now z).owner) c.row_place.ensures in
+    owner_found c.args.records.now.words.now c.args.area.now c.args.records.now.layout c.args.x
+    c.args.left c.args.s c.requires.1 c.args.m.0 c.requires.2 c.requires.3 c.word-row.ensures
+    c.if-row-eq0.false c.if-row-eq1.false c.requires.0 q _
+    c.find_path_for_module_local.ensures c.in_err-c.was
+
 pub tight_at-invariant_of-db : goal.tight_at-invariant_of-db
-tight_at-invariant_of-db t c = let q = c.scope_owner-owner.ensures ∙ ap (λ z. (scope_at c.args.records.now.words.now z).owner) c.row_place.ensures in record {
-  reads = owner_reads c.args.records.now.words.now c.args.area.now c.args.records.now.layout c.args.x c.args.left c.args.s c.requires.1
-      c.args.m.0 c.requires.2 c.requires.3 c.word-row.ensures c.if-row-eq0.false c.if-row-eq1.false c.requires.0 q _
-      c.find_path_for_module_local-c.ensures;
-}
+tight_at-invariant_of-db t c =
+    let q = c.scope_owner-owner.ensures ∙ ap (λ z. (scope_at c.args.records.now.words.now z).owner) c.row_place.ensures in
+    record {
+      reads = owner_reads c.args.records.now.words.now c.args.area.now c.args.records.now.layout c.args.x
+          c.args.left c.args.s c.requires.1 c.args.m.0 c.requires.2 c.requires.3 c.word-row.ensures
+          c.if-row-eq0.false c.if-row-eq1.false c.requires.0 q _
+          c.find_path_for_module_local.ensures;
+    }
 
 pub tight_at-from_row-requires : goal.tight_at-from_row-requires
 tight_at-from_row-requires t c =
-    let q = c.scope_owner-owner.ensures ∙ ap (λ z. (scope_at c.args.records.now.words.now z).owner) c.row_place.ensures in (
+    let q = c.scope_owner-owner.ensures ∙ ap (λ z. (scope_at c.args.records.now.words.now z).owner) c.row_place.ensures in
+    let e = c.in_ok-c.was in (
       row_two c.args.records.now.words.now c.args.area.now c.args.records.now.layout c.args.x
           c.args.left c.args.s c.requires.1 c.args.m.0 c.requires.2 c.requires.3 c.word-row.ensures
           c.if-row-eq0.false c.if-row-eq1.false,
       (row_entered c.args.records.now.words.now c.args.area.now c.args.records.now.layout c.args.x
           c.args.left c.args.s c.requires.1 c.args.m.0 c.requires.2 c.requires.3 c.word-row.ensures
           c.if-row-eq0.false c.if-row-eq1.false).fits,
-      owner_found c.args.records.now.words.now c.args.area.now c.args.records.now.layout
-          c.args.x c.args.left c.args.s c.requires.1 c.args.m.0 c.requires.2 c.requires.3 c.word-row.ensures
-          c.if-row-eq0.false c.if-row-eq1.false c.requires.0 q _ c.find_path_for_module_local-c.ensures,
-      owner_few
-          c.args.records.now.words.now c.args.area.now c.args.records.now.layout c.args.x c.args.left c.args.s c.requires.1
-          c.args.m.0 c.requires.2 c.requires.3 c.word-row.ensures c.if-row-eq0.false c.if-row-eq1.false c.requires.0 q _
-          c.find_path_for_module_local-c.ensures,
+      owner_few c.args.records.now.words.now c.args.area.now c.args.records.now.layout c.args.x
+          c.args.left c.args.s c.requires.1 c.args.m.0 c.requires.2 c.requires.3 c.word-row.ensures
+          c.if-row-eq0.false c.if-row-eq1.false c.requires.0 q _
+          c.find_path_for_module_local.ensures e,
       owner_text c.args.records.now.words.now c.args.area.now c.args.records.now.layout c.args.x
           c.args.left c.args.s c.requires.1 c.args.m.0 c.requires.2 c.requires.3 c.word-row.ensures
-          c.if-row-eq0.false c.if-row-eq1.false c.requires.0 q _ c.find_path_for_module_local-c.ensures,
-      owner_steps
-          c.args.records.now.words.now c.args.area.now c.args.records.now.layout c.args.x c.args.left c.args.s c.requires.1
-          c.args.m.0 c.requires.2 c.requires.3 c.word-row.ensures c.if-row-eq0.false c.if-row-eq1.false c.requires.0 q _
-          c.find_path_for_module_local-c.ensures,
+          c.if-row-eq0.false c.if-row-eq1.false c.requires.0 q _
+          c.find_path_for_module_local.ensures e,
+      owner_steps c.args.records.now.words.now c.args.area.now c.args.records.now.layout c.args.x
+          c.args.left c.args.s c.requires.1 c.args.m.0 c.requires.2 c.requires.3 c.word-row.ensures
+          c.if-row-eq0.false c.if-row-eq1.false c.requires.0 q _
+          c.find_path_for_module_local.ensures e,
     )
 
 pub tight_at-returns : goal.tight_at-returns
 tight_at-returns t c =
     let q = c.scope_owner-owner.ensures ∙ ap (λ z. (scope_at c.args.records.now.words.now z).owner) c.row_place.ensures in
-    owner_done c.args.records.now.words.now c.args.area.now c.args.records.now.layout c.args.x c.args.left c.args.s c.requires.1
-    c.args.m.0 c.requires.2 c.requires.3 c.word-row.ensures c.if-row-eq0.false c.if-row-eq1.false c.requires.0 q _
-    c.find_path_for_module_local-c.ensures c.from_row.ensures
+    owner_done c.args.records.now.words.now c.args.area.now c.args.records.now.layout c.args.x
+    c.args.left c.args.s c.requires.1 c.args.m.0 c.requires.2 c.requires.3 c.word-row.ensures
+    c.if-row-eq0.false c.if-row-eq1.false c.requires.0 q _
+    c.find_path_for_module_local.ensures c.in_ok-c.was c.from_row.ensures

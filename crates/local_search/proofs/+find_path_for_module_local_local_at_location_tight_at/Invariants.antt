@@ -1,5 +1,6 @@
 use Rattle.local_search.proofs.Nests.{Nesting}
 use Prim.Native.Nat.{◌+◌, ◌*◌}
+use Rattle.path_choices.specs.Given.{given}
 use Rattle.snapshot.specs.Laid.{snap_by}
 use Rattle.local_search.proofs.+find_path_for_module_local_local_at_location_tight_at.Given as goal
 
@@ -17,4 +18,4 @@ decreases-tight_at l = 4 * l.left + 2
 
 abbrev pub invariant-local_at-loop-k : goal.invariant-local_at-loop-k
 invariant-local_at-loop-k l =
-    Nesting l.records.words.now l.records.layout (snap_by l.records l.initial.area) l.x l.left l.sought.item l.initial.area l.s l.n l.area l.best l.k
+    Nesting l.records.words.now l.records.layout (snap_by l.records l.initial.area) l.x l.left l.sought.item l.initial.area l.s l.n l.area (given l.best) l.k

@@ -1,17 +1,11 @@
 use Rattle.distances.specs.Distances.{distance}
-use Rattle.local_search.proofs.Searches.{ruling_far, ruling_near}
+use Rattle.local_search.proofs.Searches.{rules_far}
 use Rattle.snapshot.specs.Laid.{snap_by}
 use Rattle.local_search.proofs.rules_at.Goals as goal
 
 pub returns-then-word-gt1 : goal.returns-then-word-gt1
 returns-then-word-gt1 c =
     let A = c.args.db.now.area.now in
-    ruling_far (snap_by c.args.db.now.records A) c.args.x c.args.db.now.records.layout.modules (distance A) c.args.m.0
+    rules_far (snap_by c.args.db.now.records A) c.args.x c.args.db.now.records.layout.modules (distance A) c.args.m.0
     c.requires.2 c.requires.1 c.word.ensures
-    c.if-word-gt1.true c.nothing.ensures
-
-pub returns : goal.returns
-returns c =
-    let A = c.args.db.now.area.now in
-    ruling_near (snap_by c.args.db.now.records A) c.args.x c.args.db.now.records.layout.modules (distance A) c.args.m.0
-    c.module_rules.ensures
+    c.if-word-gt1.true

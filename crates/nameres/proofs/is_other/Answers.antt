@@ -1,7 +1,8 @@
-use mathlib.Core.Path.{sym, ap, ap₂, ◌∙◌}
+use mathlib.Core.Path.{sym, ap, ◌∙◌}
 use mathlib.Core.Bool.{not}
 use Rattle.snapshot.specs.Records.{scope_at}
-use Rattle.hir_def.specs.Items.{item_of, same_item, module_item}
+use Rattle.hir_def.proofs.ItemTests.{item_eq}
+use Rattle.hir_def.specs.Items.{same_item, module_item}
 use Rattle.hir_def.specs.Entries.{entry_of}
 use Rattle.hir_def.specs.Nameres.{is_other}
 use Rattle.snapshot.specs.Laid.{snap_by}
@@ -20,8 +21,6 @@ unfolding is_other
 returns c =
     λ A.
     (
-    let i = c.item_of-item.ensures A ∙ ap₂ (λ n d. item_of (snap_by c.args.records.now A) n d)
-    c.scope_ns.ensures c.scope_definition.ensures in
-    ap not (c.same_item.ensures ∙ ap (λ x. same_item x (module_item c.args.m.0)) i)
+    c.ne.ensures ∙ ap not (item_eq _ _ ∙ ap (λ x. same_item x (module_item c.args.m.0)) (c.item_at.ensures A))
     ∙ sym (ap (λ e. is_other (snap_by c.args.records.now A) c.args.m.0 (entry_of scope_at c.args.records.now.words.now e))
     c.in-Some.is))

@@ -1,15 +1,11 @@
-use mathlib.Core.Path.{sym, ap, ◌∙◌}
-use native.Mathlib.Omega.{arith}
-use lib.Seq.{length-take-le}
-use Rattle.snapshot.specs.Limits.{area_limit}
-use Rattle.reach_parts.specs.Reach.{refused_reach}
+use mathlib.Core.Path.{refl}
 use Rattle.reach_answer.proofs.Laws.{reaches_small, reaches_large}
 use Rattle.reach_answer.proofs.find_reach.Goals as goal
 
 pub returns-in_default : goal.returns-in_default
 returns-in_default c =
     let s = c.args in
-    reaches_small s.words.now s.area.now s.v _ c.in_default.ensures.cases (c.refused.ensures ∙ ap refused_reach c.number.ensures.same)
+    reaches_small s.words.now s.area.now s.v _ c.in_default.ensures.cases refl
 
 pub returns : goal.returns
 returns c =

@@ -1,5 +1,4 @@
 use Rattle.snapshot.specs.Records.{scope_at}
-use Rattle.hir_def.proofs.Fits.{few_words}
 use Rattle.hir_def.proofs.Fresh.{for_test}
 use Rattle.rule_lookups.specs.Tests.{test_of}
 use Rattle.rule_lookups.proofs.Laws.{fresh_no, fresh_yes}

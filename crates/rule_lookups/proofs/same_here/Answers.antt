@@ -1,6 +1,7 @@
-use mathlib.Core.Path.{sym, ap, ap₂, ◌∙◌}
+use mathlib.Core.Path.{sym, ap, ◌∙◌}
 use Rattle.snapshot.specs.Records.{scope_at}
-use Rattle.hir_def.specs.Items.{item_of, same_item}
+use Rattle.hir_def.proofs.ItemTests.{item_eq}
+use Rattle.hir_def.specs.Items.{same_item}
 use Rattle.hir_def.specs.Entries.{entry_of}
 use Rattle.find_path.specs.Rules.{same_here}
 use Rattle.snapshot.specs.Laid.{snap_by}
@@ -20,8 +21,6 @@ returns c =
     λ A x.
     (
     let n = snap_by c.args.records.now A in
-    let i = c.item_of-its.ensures A ∙ ap₂ (item_of n) c.scope_ns.ensures
-    c.scope_definition.ensures in
-    c.same_item.ensures ∙ ap (λ y. same_item y c.args.item) i
+    c.eq.ensures ∙ item_eq _ _ ∙ ap (λ y. same_item y c.args.item) (c.item_at.ensures A)
     ∙ sym (ap (λ e. same_here n x c.args.item (entry_of scope_at c.args.records.now.words.now e))
     c.in-Some.is))

@@ -1,6 +1,4 @@
 use Prim.Native.Nat.{◌≤◌}
-use mathlib.Core.Path.{◌≡◌}
-use lib.ListN.{length}
 use Rattle.scope_index.specs.Post.{Made}
 use Rattle.scope_index.proofs.index_scopes.Given as goal
 

@@ -1,50 +1,39 @@
-use mathlib.Core.Path.{refl}
+use mathlib.Core.Path.{refl, sym, ap, ◌∙◌}
 use native.Mathlib.Omega.{arith}
-use borrow.Author.Tests.{not-true, not-false}
-use Rattle.tight_rows.proofs.Keeping.{row_none, row_flag_lem, row_plain}
+use Rattle.path_choices.specs.Given.{chosen, given}
+use Rattle.tight_rows.specs.Rows.{row_of}
+use Rattle.tight_rows.proofs.Keeping.{row_none, row_flag_lem, row_plain, placed_some}
 use Rattle.tight_rows.proofs.row_of.Goals as goal
 
-pub returns-then-not-c : goal.returns-then-not-c
-returns-then-not-c c = (row_none c.args.c (not-true _ c.if-not-c.true), omega arith)
+pub returns-in_default : goal.returns-in_default
+returns-in_default c = (row_none (given c.args.c) (ap (λ o. (given o).found) c.in_default.is), omega arith)
 
 pub overflow_sub-last : goal.overflow_sub-last
-overflow_sub-last c =
-    let p = c.requires (not-false _ c.if-not-c.false) in
-    omega (arith, p.0)
+overflow_sub-last c = omega (arith, (placed_some _ c.in-Some.is c.requires).0)
 
 pub offset_bounds-route-last : goal.offset_bounds-route-last
-offset_bounds-route-last c =
-    let p = c.requires (not-false _ c.if-not-c.false) in
-    omega (arith, p.1)
+offset_bounds-route-last c = omega (arith, (placed_some _ c.in-Some.is c.requires).1)
 
 pub bounds-route-last : goal.bounds-route-last
 bounds-route-last c =
-    let p = c.requires (not-false _ c.if-not-c.false) in
+    let p = placed_some _ c.in-Some.is c.requires in
     omega (arith, p.0, p.1)
 
 pub overflow_mul-row : goal.overflow_mul-row
-overflow_mul-row c =
-    let p = c.requires (not-false _ c.if-not-c.false) in
-    omega (arith, p.2)
+overflow_mul-row c = omega (arith, (placed_some _ c.in-Some.is c.requires).2)
 
 pub overflow_add-row : goal.overflow_add-row
-overflow_add-row c =
-    let p = c.requires (not-false _ c.if-not-c.false) in
-    omega (arith, p.2)
+overflow_add-row c = omega (arith, (placed_some _ c.in-Some.is c.requires).2)
 
 pub overflow_add-result : goal.overflow_add-result
-overflow_add-result c =
-    let p = c.requires (not-false _ c.if-not-c.false) in
-    omega (arith, p.2)
+overflow_add-result c = omega (arith, (placed_some _ c.in-Some.is c.requires).2)
 
-pub returns-then-c : goal.returns-then-c
-returns-then-c c =
-    let f = not-false _ c.if-not-c.false in
-    let p = c.requires f in
-    (row_flag_lem c.args.c f refl c.if-c.true, omega (arith, p.2))
+pub returns-then-d : goal.returns-then-d
+returns-then-d c =
+    let p = placed_some _ c.in-Some.is c.requires in
+    (row_flag_lem (chosen c.in-Some.d) refl refl c.if-d.true ∙ sym (ap (λ o. row_of (given o)) c.in-Some.is), omega (arith, p.2))
 
 pub returns : goal.returns
 returns c =
-    let f = not-false _ c.if-not-c.false in
-    let p = c.requires f in
-    (row_plain c.args.c f refl c.if-c.false, omega (arith, p.2))
+    let p = placed_some _ c.in-Some.is c.requires in
+    (row_plain (chosen c.in-Some.d) refl refl c.if-d.false ∙ sym (ap (λ o. row_of (given o)) c.in-Some.is), omega (arith, p.2))

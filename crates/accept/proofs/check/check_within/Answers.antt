@@ -1,6 +1,6 @@
 use mathlib.Core.Path.{sym, ◌∙◌}
 use native.Mathlib.Omega.{arith}
-use Rattle.std.proofs.lemmas.Result.{err_from_is_err_and}
+use Rattle.check_rules.proofs.Exits.{err_is}
 use Rattle.accept.proofs.Ending.{too_long, ended_judged, not_filled, not_owned, map_small, accepted}
 use Rattle.accept.proofs.check.check_within.Goals as goal
 
@@ -9,8 +9,7 @@ returns-then-words-gt-SNAPSHOT c = too_long _ _ c.if-words-gt-SNAPSHOT.true
 
 pub returns-in_err-l : goal.returns-in_err-l
 returns-in_err-l c =
-    let p = err_from_is_err_and c.from_residual.result c.from_residual.ensures.1 in
-    rw (p.1, p.2) (ended_judged c.args.words.now c.read_records.new.area _ c.in_err-l.ensures)
+    rw (err_is _ _ c.from_residual.ensures.1) (ended_judged c.args.words.now c.read_records.new.area _ c.in_err-l.ensures)
 
 pub returns-then-not-maps_filled : goal.returns-then-not-maps_filled
 returns-then-not-maps_filled c =

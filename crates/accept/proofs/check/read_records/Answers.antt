@@ -1,7 +1,7 @@
 use mathlib.Core.Path.{◌≡◌, refl, ◌∙◌}
 use Rattle.std.proofs.Common.{rules}
 use native.Mathlib.Omega.{arith}
-use Rattle.std.proofs.lemmas.Result.{err_from_is_err_and}
+use Rattle.check_rules.proofs.Exits.{err_is}
 use Rattle.accept.proofs.Turns.{arguments_few}
 use Rattle.accept.proofs.Folds.{going_start, going_here, going_stop, going_on, going_end, before_ok, before_err}
 use Rattle.accept.proofs.check.read_records.Goals as goal
@@ -22,12 +22,11 @@ turn-requires c =
 pub returns-in_err-l : goal.returns-in_err-l
 returns-in_err-l c =
     let g = c.loop-at in
-    let p = err_from_is_err_and c.from_residual.result c.from_residual.ensures.1 in
     let m = before_err _ c.turn.result c.in_err-l.field-0.0 c.map_err.ensures.cases c.in_err-l.was in
     let k : c.in_err-l.field-0.0 ≡ record { why = m.0; at = g.at } = search (rules, m.2) in
     let q = going_stop c.args.words.now g.area c.turn.new.area g.at g.last g.l c.turn.result g.invariant.0
     c.loop-at-test.true c.turn.ensures m.0 m.1 in
-    rw (p.1, p.2, k) q
+    rw (err_is _ _ c.from_residual.ensures.1, k) q
 
 pub overflow_add-at-in-loop-at : goal.overflow_add-at-in-loop-at
 overflow_add-at-in-loop-at c =

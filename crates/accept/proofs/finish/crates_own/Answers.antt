@@ -3,7 +3,6 @@ use native.Mathlib.Omega.{arith}
 use borrow.Author.Tests.{eq-eqb, ne_eqb}
 use mathlib.Core.Bool.{not}
 use Rattle.snapshot.specs.Lists.{all}
-use Rattle.snapshot.specs.Layouts.{own_map}
 use Rattle.snapshot.proofs.Laws.{rows_whole, all_stop, all_go, all_end}
 use Rattle.accept.proofs.finish.crates_own.Goals as goal
 

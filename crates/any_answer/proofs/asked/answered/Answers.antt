@@ -1,6 +1,6 @@
 use mathlib.Core.Path.{refl, sym, ap, ◌∙◌}
 use native.Mathlib.Omega.{arith}
-use Rattle.std.proofs.lemmas.Result.{err_from_is_err_and}
+use Rattle.check_rules.proofs.Exits.{err_is}
 use Rattle.snapshot.specs.Limits.{area_limit}
 use Rattle.snapshot.specs.Layouts.{snap_of}
 use Rattle.snapshot.specs.Records.{Snapshot}
@@ -15,14 +15,12 @@ use Rattle.any_answer.proofs.asked.answered.Goals as goal
 
 pub returns-in_err-call_fault : goal.returns-in_err-call_fault
 returns-in_err-call_fault c =
-    let p = err_from_is_err_and c.from_residual.result c.from_residual.ensures.1 in
-    rw (p.1, p.2)
+    rw (err_is _ _ c.from_residual.ensures.1)
     (on_fault c.args.words.now area_limit c.args.q c.in_err-call_fault.ensures (refusal_some _) refl)
 
 pub returns-in_err-layout : goal.returns-in_err-layout
 returns-in_err-layout c =
-    let p = err_from_is_err_and c.from_residual-in_err-layout.result c.from_residual-in_err-layout.ensures.1 in
-    rw (p.1, p.2) (on_refused c.args.words.now area_limit c.args.q c.args.area.now c.args.c c.requires
+    rw (err_is _ _ c.from_residual-in_err-layout.ensures.1) (on_refused c.args.words.now area_limit c.args.q c.args.area.now c.args.c c.requires
     c.in_ok-call_fault.ensures refl _ c.in_err-layout.was refl)
 
 pub invariant_of-records : goal.invariant_of-records
@@ -35,8 +33,7 @@ pub returns-in_err-question_fault : goal.returns-in_err-question_fault
 returns-in_err-question_fault c =
     let s = c.args in
     let A = s.area.now in
-    let p = err_from_is_err_and c.from_residual-in_err-question_fault.result c.from_residual-in_err-question_fault.ensures.1 in
-    rw (p.1, p.2) (on_accepted s.words.now area_limit s.q A s.c c.requires
+    rw (err_is _ _ c.from_residual-in_err-question_fault.ensures.1) (on_accepted s.words.now area_limit s.q A s.c c.requires
     c.in_ok-call_fault.ensures refl _ c.in_ok-layout.was
     (any_fault (snap_of s.words.now A c.in_ok-layout.layout) s.q (c.in_err-question_fault.ensures A) (refusal_some _) refl))
 
@@ -55,11 +52,11 @@ invariant_of-db c =
     let r = reads_of W A c.args.c c.requires _ c.in_ok-layout.was in
     record { reads = stays_reads W A c.shortest.new.area c.in_ok-layout.layout r c.shortest.ensures.stays }
 
-pub route_of-route-requires : goal.route_of-route-requires
-route_of-route-requires c =
+pub invariant_of-view : goal.invariant_of-view
+invariant_of-view c =
     let W = c.args.words.now in
     let A = c.args.area.now in
-    asked_known W A c.in_ok-layout.layout c.args.q (c.in_ok-question_fault.ensures A) refl
+    record { inside = asked_known W A c.in_ok-layout.layout c.args.q (c.in_ok-question_fault.ensures A) refl }
 
 pub returns-in_default : goal.returns-in_default
 returns-in_default c =

@@ -1,4 +1,3 @@
-use Prim.Native.Nat.{◌-◌}
 use Rattle.any_path.proofs.Taken.{Expanding}
 use Rattle.any_path.proofs.expand.expand.Given as goal
 

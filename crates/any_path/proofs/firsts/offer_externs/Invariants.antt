@@ -1,4 +1,4 @@
-use Prim.Native.Nat.{◌+◌, ◌-◌, ◌*◌}
+use Prim.Native.Nat.{◌+◌, ◌*◌}
 use lib.Dec.{eqb}
 use Rattle.snapshot.specs.Sizes.{extern_size}
 use Rattle.snapshot.specs.Records.{Extern, extern_at}

@@ -1,4 +1,4 @@
-use Prim.Native.Nat.{◌+◌, ◌-◌, ◌*◌}
+use Prim.Native.Nat.{◌+◌, ◌*◌}
 use Rattle.snapshot.specs.Sizes.{scope_size}
 use Rattle.snapshot.specs.Records.{scope_at}
 use Rattle.snapshot.specs.Layouts.{scope_base}

@@ -21,7 +21,7 @@ returns-in-Some-outer c =
 pub returns-in_err-h : goal.returns-in_err-h
 unfolding record_read
 returns-in_err-h c =
-    let db = c.args.db.now in
+    let db = c.args.view.now.db in
     ap (record_read (snap_in db) db.records.words.now) c.from_residual.ensures
     ∙ ap (option_map (as_named (snap_in db))) (sym (ap (entry_of scope_at _) c.in_err-h.was) ∙ c.prelude_named.ensures)
     ∙ plain_prelude _ _ _ _ (sym c.scopes_named-near.ensures ∙ ap (entry_of scope_at _) c.in_default.is)
@@ -30,6 +30,6 @@ returns-in_err-h c =
 pub returns : goal.returns
 unfolding record_read
 returns c =
-    ap (option_map (as_named (snap_in c.args.db.now))) (sym (ap (entry_of scope_at _) c.in_ok-h.was) ∙ c.prelude_named.ensures)
+    ap (option_map (as_named (snap_in c.args.view.now.db))) (sym (ap (entry_of scope_at _) c.in_ok-h.was) ∙ c.prelude_named.ensures)
     ∙ plain_prelude _ _ _ _ (sym c.scopes_named-near.ensures ∙ ap (entry_of scope_at _) c.in_default.is)
     (sym c.externs_named-outer.ensures ∙ ap (entry_of extern_at _) c.in_default-outer.is)

@@ -13,64 +13,20 @@ returns-then-is_met c =
     offer_old c.args.modules c.args.area.now c.args.n c.args.row.target c.args.row.link c.args.row.name c.requires.0
     (sym c.is_met.ensures ∙ c.if-is_met.true)
 
-pub overflow_mul-at : goal.overflow_mul-at
-overflow_mul-at c =
-    record { fits = omega (arith, run_small _ _ _ c.requires.0 c.requires.1) }
-
-pub overflow_add-at : goal.overflow_add-at
-overflow_add-at c =
-    record { fits = omega (arith, run_small _ _ _ c.requires.0 c.requires.1) }
-
-pub offset_bounds-area-at : goal.offset_bounds-area-at
-offset_bounds-area-at c =
-    record { fits = omega (arith, run_small _ _ _ c.requires.0 c.requires.1) }
-
 pub bounds-area-at : goal.bounds-area-at
 bounds-area-at c = omega (arith, row_space c.requires.0 c.requires.1 c.requires.2 (sym c.is_met.ensures ∙ c.if-is_met.false))
-
-pub overflow_cast-area-2 : goal.overflow_cast-area-2
-overflow_cast-area-2 c =
-    record { fits = omega (arith, run_small _ _ _ c.requires.0 c.requires.1, c.requires.3) }
-
-pub overflow_add-area : goal.overflow_add-area
-overflow_add-area c =
-    record { fits = omega (arith, run_small _ _ _ c.requires.0 c.requires.1) }
-
-pub offset_bounds-area-at-2 : goal.offset_bounds-area-at-2
-offset_bounds-area-at-2 c =
-    record { fits = omega (arith, run_small _ _ _ c.requires.0 c.requires.1) }
 
 pub bounds-area-at-2 : goal.bounds-area-at-2
 bounds-area-at-2 c =
     simp length-set (omega (arith, row_space c.requires.0 c.requires.1 c.requires.2 (sym c.is_met.ensures ∙ c.if-is_met.false)))
 
-pub overflow_add-area-2 : goal.overflow_add-area-2
-overflow_add-area-2 c =
-    record { fits = omega (arith, run_small _ _ _ c.requires.0 c.requires.1) }
-
-pub offset_bounds-area-at-3 : goal.offset_bounds-area-at-3
-offset_bounds-area-at-3 c =
-    record { fits = omega (arith, run_small _ _ _ c.requires.0 c.requires.1) }
-
 pub bounds-area-at-3 : goal.bounds-area-at-3
 bounds-area-at-3 c =
     simp length-set (omega (arith, row_space c.requires.0 c.requires.1 c.requires.2 (sym c.is_met.ensures ∙ c.if-is_met.false)))
 
-pub overflow_add-area-3 : goal.overflow_add-area-3
-overflow_add-area-3 c =
-    record { fits = omega (arith, run_small _ _ _ c.requires.0 c.requires.1) }
-
-pub offset_bounds-area-at-4 : goal.offset_bounds-area-at-4
-offset_bounds-area-at-4 c =
-    record { fits = omega (arith, run_small _ _ _ c.requires.0 c.requires.1) }
-
 pub bounds-area-at-4 : goal.bounds-area-at-4
 bounds-area-at-4 c =
     simp length-set (omega (arith, row_space c.requires.0 c.requires.1 c.requires.2 (sym c.is_met.ensures ∙ c.if-is_met.false)))
-
-pub overflow_add-result : goal.overflow_add-result
-overflow_add-result c =
-    record { fits = omega (arith, run_small _ _ _ c.requires.0 c.requires.1) }
 
 pub returns : goal.returns
 returns c =

@@ -1,4 +1,3 @@
-use Prim.Native.Nat.{◌-◌}
 use Rattle.any_path.proofs.Runs.{Spreading}
 use Rattle.any_path.proofs.run.expand_all.Given as goal
 

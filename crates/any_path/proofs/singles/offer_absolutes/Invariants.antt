@@ -1,4 +1,4 @@
-use Prim.Native.Nat.{ℕ, ◌-◌}
+use Prim.Native.Nat.{ℕ}
 use mathlib.Core.Path.{◌≡◌}
 use Rattle.tree_rules.specs.Modules.{crate_of}
 use Rattle.any_path.proofs.Externs.{Naming}

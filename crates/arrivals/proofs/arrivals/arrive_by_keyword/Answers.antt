@@ -6,23 +6,21 @@ use Rattle.arrivals.proofs.arrivals.arrive_by_keyword.Goals as goal
 
 pub row_of-requires : goal.row_of-requires
 row_of-requires c =
-    ready_few c.args.db.now.records.words.now c.args.db.now.area.now c.args.db.now.records.layout
-    c.args.db.now.reads _ _ c.requires.0 c.requires.1
+    ready_few c.args.view.now _ c.requires
 
 pub by_rows-requires : goal.by_rows-requires
 by_rows-requires c = (
-  c.requires.0,
-  ready_few c.args.db.now.records.words.now c.args.db.now.area.now c.args.db.now.records.layout c.args.db.now.reads _ _ c.requires.0 c.requires.1,
-  ready_meant c.args.db.now.records.words.now c.args.db.now.area.now c.args.db.now.records.layout c.args.db.now.reads _ _ c.requires.0 c.requires.1,
+  ready_few c.args.view.now _ c.requires,
+  ready_meant c.args.view.now _ c.requires,
 )
 
 pub returns-in-Mod : goal.returns-in-Mod
 returns-in-Mod c =
-    leads_module c.args.db.now.records.words.now c.args.db.now.area.now c.args.db.now.records.layout c.args.db.now.reads _ _ c.requires.0 c.requires.1 _ _ c.in-Mod.is
-    (c.row_of.ensures (snap_in c.args.db.now) c.args.from.0 c.args.db.now.records.layout.modules c.requires.1.rows)
+    leads_module c.args.view.now _ c.requires _ _ c.in-Mod.is
+    (c.row_of.ensures (snap_in c.args.view.now.db) c.args.view.now.from.0 c.args.view.now.db.records.layout.modules c.requires.rows)
 
 pub returns-in-Def : goal.returns-in-Def
 unfolding ns_of
 returns-in-Def c =
-    leads_keyword c.args.db.now.records.words.now c.args.db.now.area.now c.args.db.now.records.layout c.args.db.now.reads _ _ c.requires.0 c.requires.1 _ _ _ refl
+    leads_keyword c.args.view.now _ c.requires _ _ _ refl
     c.in-Def.is c.by_rows.ensures

@@ -5,15 +5,14 @@ use Rattle.arrivals.proofs.arrivals.arrive_plainly.Goals as goal
 
 pub row_of-requires : goal.row_of-requires
 row_of-requires c =
-    ready_few c.args.db.now.records.words.now c.args.db.now.area.now c.args.db.now.records.layout
-    c.args.db.now.reads _ _ c.requires.0 c.requires.1
+    ready_few c.args.view.now _ c.requires
 
 pub returns-in-Mod : goal.returns-in-Mod
 returns-in-Mod c =
-    leads_module c.args.db.now.records.words.now c.args.db.now.area.now c.args.db.now.records.layout c.args.db.now.reads _ _ c.requires.0 c.requires.1 _ _ c.in-Mod.is
-    (c.row_of.ensures (snap_in c.args.db.now) c.args.from.0 c.args.db.now.records.layout.modules c.requires.1.rows)
+    leads_module c.args.view.now _ c.requires _ _ c.in-Mod.is
+    (c.row_of.ensures (snap_in c.args.view.now.db) c.args.view.now.from.0 c.args.view.now.db.records.layout.modules c.requires.rows)
 
 pub returns-in-Def : goal.returns-in-Def
 returns-in-Def c =
-    leads_as (snap_in c.args.db.now) c.args.from.0 c.args.n c.args.db.now.area.now
+    leads_as (snap_in c.args.view.now.db) c.args.view.now.from.0 c.args.n c.args.view.now.db.area.now
     true _ _ _ c.in-Def.is c.plainly.ensures

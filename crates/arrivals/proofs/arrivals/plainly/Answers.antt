@@ -9,18 +9,17 @@ use Rattle.arrivals.proofs.arrivals.plainly.Goals as goal
 pub returns-in-Some : goal.returns-in-Some
 unfolding LeadsTo
 returns-in-Some c =
-    leads_plain c.args.db.now.records.words.now c.args.db.now.area.now c.args.db.now.records.layout c.args.db.now.reads _ _ c.requires.0 c.requires.1 _ _ refl
-    (sym (ap (entry_of scope_at c.args.db.now.records.words.now) c.in-Some.is) ∙ c.plain_entry.ensures) c.scope_name-name.ensures
+    leads_plain c.args.view.now _ c.requires _ _ refl
+    (sym (ap (entry_of scope_at c.args.view.now.db.records.words.now) c.in-Some.is) ∙ c.plain_entry.ensures) c.scope_name-name.ensures
 
 pub by_rows-requires : goal.by_rows-requires
 by_rows-requires c = (
-  c.requires.0,
-  ready_few c.args.db.now.records.words.now c.args.db.now.area.now c.args.db.now.records.layout c.args.db.now.reads _ _ c.requires.0 c.requires.1,
-  ready_meant c.args.db.now.records.words.now c.args.db.now.area.now c.args.db.now.records.layout c.args.db.now.reads _ _ c.requires.0 c.requires.1,
+  ready_few c.args.view.now _ c.requires,
+  ready_meant c.args.view.now _ c.requires,
 )
 
 pub returns : goal.returns
 unfolding ns_of
 returns c =
-    leads_past c.args.db.now.records.words.now c.args.db.now.area.now c.args.db.now.records.layout c.args.db.now.reads _ _ c.requires.0 c.requires.1 _ _ refl _
-    (sym (ap (entry_of scope_at c.args.db.now.records.words.now) c.in_default.is) ∙ c.plain_entry.ensures) c.by_rows.ensures
+    leads_past c.args.view.now _ c.requires _ _ refl _
+    (sym (ap (entry_of scope_at c.args.view.now.db.records.words.now) c.in_default.is) ∙ c.plain_entry.ensures) c.by_rows.ensures

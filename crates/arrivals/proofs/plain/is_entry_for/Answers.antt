@@ -1,11 +1,7 @@
-use mathlib.Core.List.{List}
-use Prim.Native.Nat.{ℕ}
-use Rattle.snapshot.specs.Records.{scope_at}
-use Rattle.arrivals.proofs.Means.{entry_item}
-use Rattle.snapshot.specs.Laid.{snap_by}
+use mathlib.Core.Path.{ap, ◌∙◌}
+use Rattle.hir_def.specs.Items.{same_item}
+use Rattle.hir_def.proofs.ItemTests.{item_eq}
 use Rattle.arrivals.proofs.plain.is_entry_for.Goals as goal
 
 pub returns : goal.returns
-returns c =
-    λ (A : List ℕ). entry_item (snap_by c.args.records.now A) c.args.item (scope_at c.args.records.now.words.now c.args.h)
-    c.same_item.ensures (c.item_of.ensures A) c.scope_ns-ns.ensures c.scope_definition.ensures
+returns c = λ A. c.eq.ensures ∙ item_eq _ _ ∙ ap (λ x. same_item x c.args.item) (c.item_at.ensures A)

@@ -1,17 +1,16 @@
 use mathlib.Core.Path.{refl}
-use Rattle.std.proofs.lemmas.Result.{err_from_is_err_and}
+use Rattle.check_rules.proofs.Exits.{err_is}
 use Rattle.snapshot.specs.Limits.{area_limit}
 use Rattle.snapshot.specs.Layouts.{snap_of}
 use Rattle.snapshot.proofs.Laws.{refusal_some}
 use Rattle.hir_def.proofs.Fits.{few_words}
-use Rattle.checked.proofs.Laws.{fault_at, fault_free, fault_known, definitions_count, modules_count, reads_of, report_fault, report_verdict}
+use Rattle.checked.proofs.Laws.{fault_free, fault_known, definitions_count, modules_count, reads_of, report_fault, report_verdict}
 use Rattle.checked.proofs.Laws.{report_refused, report_accepted, answer_fault, answer_found}
 use Rattle.checked.proofs.checked.answered.Goals as goal
 
 pub returns-in_err-call_fault : goal.returns-in_err-call_fault
 returns-in_err-call_fault c =
-    let p = err_from_is_err_and c.from_residual.result c.from_residual.ensures.1 in
-    rw (p.1, p.2) (record {
+    rw (err_is _ _ c.from_residual.ensures.1) (record {
       report = report_fault c.args.words.now area_limit c.args.question _ _
           c.in_err-call_fault.ensures (refusal_some _) refl;
       checked = c.requires;
@@ -20,9 +19,8 @@ returns-in_err-call_fault c =
 pub returns-in_err-layout : goal.returns-in_err-layout
 returns-in_err-layout c =
     let s = c.args in
-    let p = err_from_is_err_and c.from_residual-in_err-layout.result c.from_residual-in_err-layout.ensures.1 in
     let k = report_refused s.words.now s.area.now s.c c.requires s.question.query s.question.fuel _ _ c.in_err-layout.was refl in
-    rw (p.1, p.2) (record {
+    rw (err_is _ _ c.from_residual-in_err-layout.ensures.1) (record {
       report = report_verdict s.words.now area_limit s.question _ _ c.in_ok-call_fault.ensures refl k.0;
       checked = k.1;
     })
@@ -37,11 +35,10 @@ pub returns-in_err-question_fault : goal.returns-in_err-question_fault
 returns-in_err-question_fault c =
     let s = c.args in
     let A = s.area.now in
-    let p = err_from_is_err_and c.from_residual-in_err-question_fault.result c.from_residual-in_err-question_fault.ensures.1 in
     let a = answer_fault (snap_of s.words.now A c.in_ok-layout.layout) s.question.query s.question.fuel _ _ (c.in_err-question_fault.ensures A)
     (refusal_some _) refl in
     let k = report_accepted s.words.now A s.c c.requires s.question.query s.question.fuel _ c.in_ok-layout.layout A c.in_ok-layout.was refl a in
-    rw (p.1, p.2) (record {
+    rw (err_is _ _ c.from_residual-in_err-question_fault.ensures.1) (record {
       report = report_verdict s.words.now area_limit s.question _ _ c.in_ok-call_fault.ensures refl k.0;
       checked = k.1;
     })

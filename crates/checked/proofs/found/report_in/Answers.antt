@@ -1,6 +1,8 @@
 use mathlib.Core.Path.{◌∙◌, ap}
 use Rattle.snapshot.specs.Records.{Snapshot}
 use Rattle.snapshot.specs.Layouts.{snap_of}
+use Rattle.path_choices.specs.Given.{given}
+use Rattle.find_path.specs.Charged.{given_found}
 use Rattle.find_path.specs.Report.{misleads}
 use Rattle.search_laws.proofs.Tables.{same_snap, same_reads}
 use Rattle.reports.proofs.Laws.{reported_out}
@@ -18,7 +20,7 @@ misleads-misleading-requires c =
     let W = c.args.records.now.words.now in
     let A = c.args.area.now in (
       c.requires.2,
-      found_few (snap_of W A c.args.records.now.layout) c.args.q c.args.fuel c.requires.5 c.requires.6 f.result f.ensures.same,
+      found_few (snap_of W A c.args.records.now.layout) c.args.q c.args.fuel c.requires.5 c.requires.6 (given_found f.result) f.ensures.same,
     )
 
 pub returns : goal.returns
@@ -27,7 +29,7 @@ returns c = let W = c.args.records.now.words.now in
     let S = snap_of W A c.args.records.now.layout in
     let q = c.args.q in record {
       value = c.reported.ensures S q
-          (c.misleads-misleading.ensures ∙ ap (λ (x : Snapshot). misleads x q c.find_path-f.result.choice)
+          (c.misleads-misleading.ensures ∙ ap (λ (x : Snapshot). misleads x q (given c.find_path-f.result.choice))
           (same_snap W A c.find_path-f.new.area c.args.records.now.layout c.find_path-f.ensures.tables c.requires.0))
           ∙ reported_out S q c.find_path-f.result _ c.find_path-f.ensures.same;
       area_unchanged = c.find_path-f.ensures.tables;

@@ -3,7 +3,7 @@ use mathlib.Core.Path.{refl, sym, ap, ◌∙◌}
 use mathlib.Core.List.{◌++◌}
 use lib.ListN.{length, take, replicate}
 use lib.Seq.{length-take-le}
-use Rattle.std.proofs.lemmas.Result.{err_from_is_err_and}
+use Rattle.check_rules.proofs.Exits.{err_is}
 use Rattle.snapshot.proofs.Laws.{refusal_some}
 use Rattle.snapshot.specs.Sizes.{scope_size}
 use Rattle.edit_rules.specs.Entries.{entry_of, inserted}
@@ -16,8 +16,7 @@ slice_bounds-add_fault-end-2 c = sym (length-take-le _ c.args.words.now c.requir
 pub returns-in_err-add_fault : goal.returns-in_err-add_fault
 returns-in_err-add_fault c =
     let r = c.requires.1.1 in
-    let p = err_from_is_err_and c.from_residual.result c.from_residual.ensures.1 in
-    rw (p.1, p.2) (added_not c.args.words.now c.args.count c.requires.0 _ r.same (entry_of c.args.entry.now) _
+    rw (err_is _ _ c.from_residual.ensures.1) (added_not c.args.words.now c.args.count c.requires.0 _ r.same (entry_of c.args.entry.now) _
     (c.in_err-add_fault.ensures c.requires.1.0 r) (refusal_some _))
 
 pub slice_bounds-scopes_end-end-2 : goal.slice_bounds-scopes_end-end-2

@@ -2,7 +2,7 @@ use mathlib.Core.Path.{sym}
 use native.Mathlib.Omega.{arith}
 use lib.Seq.{length-take-le}
 use Rattle.std.specs.Prelude.{Ok, Err}
-use Rattle.std.proofs.lemmas.Result.{err_from_is_err_and}
+use Rattle.check_rules.proofs.Exits.{err_is}
 use Rattle.edits.proofs.Laws.{opens_short, opens_front}
 use Rattle.edits.proofs.edits.check_first.Goals as goal
 
@@ -14,8 +14,7 @@ slice_bounds-check-end c = sym (length-take-le _ c.args.words.now c.if-words-cou
 
 pub returns-in_err-check : goal.returns-in_err-check
 returns-in_err-check c =
-    let p = err_from_is_err_and c.from_residual.result c.from_residual.ensures.1 in
-    rw (p.1, p.2) (opens_front c.args.words.now c.args.count c.args.area.now _ (omega (arith, c.told-area)) c.if-words-count.false c.told-area (Err _) c.in_err-check.ensures)
+    rw (err_is _ _ c.from_residual.ensures.1) (opens_front c.args.words.now c.args.count c.args.area.now _ (omega (arith, c.told-area)) c.if-words-count.false c.told-area (Err _) c.in_err-check.ensures)
 
 pub returns : goal.returns
 returns c = opens_front c.args.words.now c.args.count c.args.area.now _ (omega (arith, c.told-area)) c.if-words-count.false c.told-area (Ok _) c.in_ok-check.ensures

@@ -1,12 +1,11 @@
-use Rattle.std.proofs.lemmas.Result.{err_from_is_err_and}
+use Rattle.check_rules.proofs.Exits.{err_is}
 use Rattle.edits.proofs.Laws.{edit_not, edit_done}
 use Rattle.edits.proofs.edits.remove_entry.Goals as goal
 
 pub returns-in_err-opened : goal.returns-in_err-opened
 returns-in_err-opened c =
-    let p = err_from_is_err_and c.from_residual.result c.from_residual.ensures.1 in
     let q = c.in_err-opened.ensures in
-    rw (p.1, p.2) (edit_not c.args.words.now c.args.area.now c.args.count _ q.area_after _ _ q.opens)
+    rw (err_is _ _ c.from_residual.ensures.1) (edit_not c.args.words.now c.args.area.now c.args.count _ q.area_after _ _ q.opens)
 
 pub remove_accepted-requires : goal.remove_accepted-requires
 remove_accepted-requires c = let q = c.in_ok-opened.ensures.opens.1 in (q.0, (_, q.1.1.same))

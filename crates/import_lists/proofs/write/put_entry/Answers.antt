@@ -14,16 +14,16 @@ pub put_import-requires : goal.put_import-requires
 put_import-requires c =
     let e = scope_at c.args.db.now.records.words.now c.args.entry in
     let p = imports_entry (snap_in c.args.db.now) c.args.c.0 e in
-    let q = entry_same_import c.args.c.0 e c.scope_ns-ns.ensures
-    c.scope_definition-d.ensures
-    c.scope_name-name.ensures c.scope_owner-m.ensures c.scope_bits-bits.ensures in
+    let q = entry_same_import c.args.c.0 e c.scope_ns.ensures
+    c.scope_definition.ensures
+    c.scope_name.ensures c.scope_owner.ensures c.scope_bits.ensures in
     (bounded_as (entry_bounded c.requires.listed) q, space_as (space_rest c.requires.space p c.put_members-t.ensures) (ap (λ y. y ∷ []) (sym q)))
 
 pub returns : goal.returns
 returns c =
     let e = scope_at c.args.db.now.records.words.now c.args.entry in
     let p = imports_entry (snap_in c.args.db.now) c.args.c.0 e in
-    let q = entry_same_import c.args.c.0 e c.scope_ns-ns.ensures
-    c.scope_definition-d.ensures
-    c.scope_name-name.ensures c.scope_owner-m.ensures c.scope_bits-bits.ensures in
+    let q = entry_same_import c.args.c.0 e c.scope_ns.ensures
+    c.scope_definition.ensures
+    c.scope_name.ensures c.scope_owner.ensures c.scope_bits.ensures in
     wrote_both p c.put_members-t.ensures (wrote_as c.put_import.ensures (ap (λ y. y ∷ []) q))

@@ -25,7 +25,8 @@ bounds-target-at-then-write-5 c = let h = c.requires.1.room c.if-write.true
 pub returns : goal.returns
 returns c =
     let a = c.args in
+    let i = a.import in
     elim c.if-write.branch [
-      | then-write w ↦ rw (w.if-write.true, w.target-is) (wrote_one a.at a.c.0 a.ns a.d.0 a.name.0 a.m.0 a.bits a.target.now)
-      | else-write w ↦ rw (w.if-write.false, w.target-is) (counted_one a.at a.c.0 a.ns a.d.0 a.name.0 a.m.0 a.bits a.target.now)
+      | then-write w ↦ rw (w.if-write.true, w.target-is) (wrote_one a.at i.krate.0 i.ns i.definition.0 i.name.0 i.module.0 i.bits a.target.now)
+      | else-write w ↦ rw (w.if-write.false, w.target-is) (counted_one a.at i.krate.0 i.ns i.definition.0 i.name.0 i.module.0 i.bits a.target.now)
     ]

@@ -19,9 +19,9 @@ put_import-requires c =
     let e = scope_at W c.args.entry in
     let x = member_at W c.args.member in
     let q = member_same_import c.args.c.0 e x refl c.scope_ns.ensures
-    (c.member_ns-ns.ensures _ c.known_member_kind-kind.ensures) c.member_definition-d.ensures
-    c.member_name-name.ensures
-    c.scope_owner-m.ensures c.member_bits-bits.ensures in
+    (c.member_ns.ensures _ c.known_member_kind-kind.ensures) c.member_definition.ensures
+    c.member_name.ensures
+    c.scope_owner.ensures c.member_bits.ensures in
     let v : c.eq.result ≡ eqb (member_at W c.args.member).kind 3 = search rules in
     let o = kept_one c.args.c.0 e x (eqb-false _ _ (sym v ∙ c.if-eq.false)) in
     (bounded_as c.requires.bounded q, space_as c.requires.space (o ∙ ap (λ y. y ∷ []) (sym q)))
@@ -32,9 +32,9 @@ returns c =
     let e = scope_at W c.args.entry in
     let x = member_at W c.args.member in
     let q = member_same_import c.args.c.0 e x refl c.scope_ns.ensures
-    (c.member_ns-ns.ensures _ c.known_member_kind-kind.ensures) c.member_definition-d.ensures
-    c.member_name-name.ensures
-    c.scope_owner-m.ensures c.member_bits-bits.ensures in
+    (c.member_ns.ensures _ c.known_member_kind-kind.ensures) c.member_definition.ensures
+    c.member_name.ensures
+    c.scope_owner.ensures c.member_bits.ensures in
     let v : c.eq.result ≡ eqb (member_at W c.args.member).kind 3 = search rules in
     let o = kept_one c.args.c.0 e x (eqb-false _ _ (sym v ∙ c.if-eq.false)) in
     wrote_as c.put_import.ensures (ap (λ y. y ∷ []) q ∙ sym o)

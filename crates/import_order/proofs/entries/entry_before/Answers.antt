@@ -1,11 +1,12 @@
 use mathlib.Core.Path.{◌∙◌, sym}
+use borrow.Author.Tests.{eqb-true}
 use Rattle.import_order.proofs.Orders.{entry_same, entry_text, entry_other}
 use Rattle.import_order.proofs.entries.entry_before.Goals as goal
 
-pub returns-then-x-y : goal.returns-then-x-y
-returns-then-x-y c =
+pub returns-then-eq : goal.returns-then-eq
+returns-then-eq c =
     entry_same _ _ _ c.scope_name-x.ensures c.scope_name-y.ensures
-    c.scope_ns.ensures c.scope_ns-2.ensures c.if-x-y.true
+    c.scope_ns.ensures c.scope_ns-2.ensures (eqb-true _ _ (sym c.eq.ensures ∙ c.if-eq.true))
 
 pub returns-then-text_before : goal.returns-then-text_before
 returns-then-text_before c =

@@ -1,13 +1,12 @@
 use mathlib.Core.Path.{refl, ◌∙◌}
-use Rattle.std.proofs.lemmas.Result.{err_from_is_err_and}
+use Rattle.check_rules.proofs.Exits.{err_is}
 use Rattle.checked.proofs.Laws.{refused_verdict, accepted_reads}
 use Rattle.imports.proofs.Laws.{checked_not, checked_done}
 use Rattle.imports.proofs.list.list_checked.Goals as goal
 
 pub returns-in_err-layout : goal.returns-in_err-layout
 returns-in_err-layout c =
-    let p = err_from_is_err_and c.from_residual.result c.from_residual.ensures.1 in
-    rw (p.1, p.2) (checked_not c.args.words.now c.args.target.now c.args.c.0
+    rw (err_is _ _ c.from_residual.ensures.1) (checked_not c.args.words.now c.args.target.now c.args.c.0
     (refused_verdict c.args.words.now c.args.area.now _ _ c.told-area c.in_err-layout.ensures _ refl))
 
 pub list_accepted-requires : goal.list_accepted-requires

@@ -1,13 +1,12 @@
 use mathlib.Core.Path.{refl}
-use Rattle.std.proofs.lemmas.Result.{err_from_is_err_and}
+use Rattle.check_rules.proofs.Exits.{err_is}
 use Rattle.snapshot.proofs.Laws.{refusal_some}
 use Rattle.records.proofs.Steps.{member_no, member_on}
 use Rattle.item_records.proofs.members.step.Goals as goal
 
 pub returns-in_err-judge : goal.returns-in_err-judge
 returns-in_err-judge c ms st =
-    let p = err_from_is_err_and c.from_residual.result c.from_residual.ensures.1 in
-    rw (p.1, p.2) (member_no c.args.words.now c.args.area.now c.args.at c.args.l ms st
+    rw (err_is _ _ c.from_residual.ensures.1) (member_no c.args.words.now c.args.area.now c.args.at c.args.l ms st
     c.in_err-judge.ensures c.in_range.ensures c.defined.ensures c.placed.ensures
     (refusal_some _))
 

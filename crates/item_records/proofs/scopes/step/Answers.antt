@@ -1,6 +1,6 @@
 use mathlib.Core.Path.{refl}
 use native.Mathlib.Omega.{arith}
-use Rattle.std.proofs.lemmas.Result.{err_from_is_err_and}
+use Rattle.check_rules.proofs.Exits.{err_is}
 use Rattle.snapshot.proofs.Laws.{refusal_some}
 use Rattle.records.proofs.Steps.{scope_no, scope_on}
 use Rattle.records.proofs.Linked.{scope_chain, scope_linked}
@@ -14,8 +14,7 @@ repeated_with-old-requires c = let e = c.scope_base.ensures in
 
 pub returns-in_err-judge : goal.returns-in_err-judge
 returns-in_err-judge c ms st =
-    let p = err_from_is_err_and c.from_residual.result c.from_residual.ensures.1 in
-    rw (p.1, p.2) (scope_no c.args.words.now c.args.area.now c.args.at c.args.l ms st
+    rw (err_is _ _ c.from_residual.ensures.1) (scope_no c.args.words.now c.args.area.now c.args.at c.args.l ms st
     c.in_err-judge.ensures
     c.in_range.ensures
     c.defined.ensures

@@ -1,5 +1,5 @@
 use mathlib.Core.Path.{refl, ◌∙◌}
-use Rattle.std.proofs.lemmas.Result.{err_from_is_err_and}
+use Rattle.check_rules.proofs.Exits.{err_is}
 use Rattle.checked.proofs.Laws.{refused_verdict, accepted_reads}
 use Rattle.join_numbers.proofs.Parts.{part_of_lem}
 use Rattle.join.proofs.Laws.{first_not, first_done}
@@ -7,8 +7,7 @@ use Rattle.join.proofs.join.join_checked.Goals as goal
 
 pub returns-in_err-layout : goal.returns-in_err-layout
 returns-in_err-layout c =
-    let p = err_from_is_err_and c.from_residual.result c.from_residual.ensures.1 in
-    rw (p.1, p.2) (first_not c.args.first.now c.args.second.now c.args.target.now
+    rw (err_is _ _ c.from_residual.ensures.1) (first_not c.args.first.now c.args.second.now c.args.target.now
     (refused_verdict c.args.first.now c.args.area.now _ _ c.told-area c.in_err-layout.ensures _ refl))
 
 pub join_second-requires : goal.join_second-requires

@@ -1,9 +1,10 @@
-use mathlib.Core.Path.{refl}
+use mathlib.Core.Path.{refl, sym, ◌∙◌}
 use native.Mathlib.Omega.{arith}
+use borrow.Author.Tests.{eqb-false, eqb-true}
 use Rattle.local_levels.proofs.Stacks.{pushing_start, pushing_skip, pushing_next, pushing_done}
 use Rattle.local_levels.proofs.Nexts.{children_start, child_hit, child_miss, child_end, child_below}
 use Rattle.local_levels.proofs.locations.push_children.Goals as goal
-use Rattle.local_levels.proofs.locations.push_children.Goals.{then-owner-from, else-owner-from}
+use Rattle.local_levels.proofs.locations.push_children.Goals.{then-eq, else-eq}
 
 pub loop-k-init : goal.loop-k-init
 loop-k-init c =
@@ -22,12 +23,12 @@ pub loop-k-preserved : goal.loop-k-preserved
 loop-k-preserved c =
     let l = c.loop-k in
     let W = c.args.records.now.words.now in
-    elim c.if-owner-from.branch [
-      | then-owner-from w ↦ pushing_skip _ _ _ _ _ (pushing_next _ _ _ _ _ l.invariant (child_hit W c.args.records.now.layout c.args.from.0 l.k c.loop-k-test.true
-          c.child_base-base.ensures c.child_owner-owner.ensures w.if-owner-from.true w.child_child-m.ensures)
+    elim c.if-eq.branch [
+      | then-eq w ↦ pushing_skip _ _ _ _ _ (pushing_next _ _ _ _ _ l.invariant (child_hit W c.args.records.now.layout c.args.from.0 l.k c.loop-k-test.true
+          c.child_base-base.ensures c.child_owner.ensures (eqb-true _ _ (sym c.eq.ensures ∙ w.if-eq.true)) w.child_child-m.ensures)
           w.push_module-run.ensures w.push_module-run.auto.area) refl w.area-is w.run-is
-      | else-owner-from w ↦ pushing_skip _ _ _ _ _ l.invariant (child_miss W c.args.records.now.layout c.args.from.0 l.k c.loop-k-test.true
-          c.child_base-base.ensures c.child_owner-owner.ensures w.if-owner-from.false) w.area-is w.run-is
+      | else-eq w ↦ pushing_skip _ _ _ _ _ l.invariant (child_miss W c.args.records.now.layout c.args.from.0 l.k c.loop-k-test.true
+          c.child_base-base.ensures c.child_owner.ensures (eqb-false _ _ (sym c.eq.ensures ∙ w.if-eq.false))) w.area-is w.run-is
     ]
 
 pub returns : goal.returns

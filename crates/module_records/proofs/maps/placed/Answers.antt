@@ -9,7 +9,7 @@ returns-then-block-eq0 c = or_yes _ (eq-eqb _ _ (sym c.map_block-block.ensures �
 pub returns : goal.returns
 returns c =
     or_no (ne_eqb _ _ (λ e. c.if-block-eq0.false (c.map_block-block.ensures ∙ e)))
-    (rw (
+    (c.eq.ensures ∙ rw (
       c.map_crate-krate.ensures,
       c.map_crate-here.ensures,
       c.module_head.ensures,

@@ -1,10 +1,11 @@
 use Prim.Native.Nat.{◌+◌}
 use mathlib.Core.Path.{ap}
 use Rattle.path_choices.proofs.ChoiceLaws.{extended_same}
+use Rattle.path_choices.specs.Given.{chosen}
 use Rattle.accept.specs.Opened.{snap_in}
 use Rattle.path_choices.proofs.Choice.extended.Goals as goal
 
 pub returns : goal.returns
 returns c =
-    extended_same (snap_in c.args.db.now) c.args.self c.args.n.0 c.args.via
+    extended_same (snap_in c.args.db.now) (chosen c.args.self) c.args.n.0 c.args.via
     c.args.flag (ap (λ x. c.args.self.path_text_len + x) c.name_len.ensures.0)

@@ -1,6 +1,7 @@
 use mathlib.Core.Path.{ap, ◌∙◌}
 use mathlib.Core.Bool.{◌||◌}
 use Rattle.path_choices.specs.Choices.{extended, push}
+use Rattle.path_choices.specs.Given.{chosen}
 use Rattle.accept.specs.Opened.{snap_in}
 use Rattle.path_choices.proofs.Choice.push.Goals as goal
 
@@ -8,5 +9,5 @@ pub returns : goal.returns
 unfolding push
 returns c =
     let n = snap_in c.args.db.now in
-    c.extended.ensures ∙ ap (λ b. extended n c.args.self c.args.n.0 c.args.via (c.args.self.has_prelude_segment || b))
+    c.extended.ensures ∙ ap (λ b. extended n (chosen c.args.self) c.args.n.0 c.args.via (c.args.self.has_prelude_segment || b))
     c.is_prelude-flag.ensures

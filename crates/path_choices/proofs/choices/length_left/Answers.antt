@@ -1,18 +1,21 @@
-use mathlib.Core.Path.{◌∙◌}
-use borrow.Author.Tests.{not-true, not-false}
+use mathlib.Core.Path.{refl, sym, ap, ◌∙◌}
+use Rattle.path_choices.specs.Choices.{length_left}
+use Rattle.path_choices.specs.Given.{chosen, given}
 use Rattle.path_choices.proofs.ChoiceLaws.{left_none, left_less, left_more}
 use Rattle.path_choices.proofs.choices.length_left.Goals as goal
 
-pub returns-then-not-best : goal.returns-then-not-best
-returns-then-not-best c =
-    c.saturating_sub.ensures ∙ left_none c.args.left c.args.best (not-true _ c.if-not-best.true)
+pub returns-in_default : goal.returns-in_default
+returns-in_default c =
+    c.saturating_sub.ensures ∙ left_none c.args.left (given c.args.best) (ap (λ o. (given o).found) c.in_default.is)
 
 pub returns-then-n-left : goal.returns-then-n-left
 returns-then-n-left c =
-    c.saturating_sub-then-n-left.ensures ∙ left_less c.args.left _ c.args.best (not-false _ c.if-not-best.false)
+    c.saturating_sub-then-n-left.ensures ∙ left_less c.args.left _ (chosen c.in-Some.c) refl
     c.path_len-n.ensures.0 c.if-n-left.true
+    ∙ sym (ap (λ o. length_left c.args.left (given o)) c.in-Some.is)
 
 pub returns : goal.returns
 returns c =
-    c.saturating_sub-2.ensures ∙ left_more c.args.left _ c.args.best (not-false _ c.if-not-best.false)
+    c.saturating_sub-2.ensures ∙ left_more c.args.left _ (chosen c.in-Some.c) refl
     c.path_len-n.ensures.0 c.if-n-left.false
+    ∙ sym (ap (λ o. length_left c.args.left (given o)) c.in-Some.is)

@@ -1,11 +1,12 @@
 use mathlib.Core.Path.{refl}
 use native.Mathlib.Omega.{arith}
 use Rattle.path_choices.specs.Choices.{path_len}
+use Rattle.path_choices.specs.Given.{chosen}
 use Rattle.path_choices.proofs.ChoiceLaws.{len_past, kind_names}
 use Rattle.path_choices.proofs.choices.path_len.Goals as goal
 
 pub returns-then-kind-ge5 : goal.returns-then-kind-ge5
-returns-then-kind-ge5 c = (len_past c.args.c c.if-kind-ge5.true, omega arith)
+returns-then-kind-ge5 c = (len_past (chosen c.args.c) c.if-kind-ge5.true, omega arith)
 
 pub overflow_add-result : goal.overflow_add-result
 overflow_add-result c =

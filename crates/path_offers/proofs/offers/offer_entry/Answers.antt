@@ -1,5 +1,6 @@
 use mathlib.Core.Path.{◌∙◌}
 use Rattle.snapshot.specs.Records.{scope_at}
+use Rattle.path_choices.specs.Given.{given}
 use Rattle.path_offers.proofs.OfferLaws.{entry_offered}
 use Rattle.accept.specs.Opened.{snap_in}
 use Rattle.path_offers.proofs.offers.offer_entry.Goals as goal
@@ -17,5 +18,5 @@ pub returns : goal.returns
 returns c =
     let n = snap_in c.args.db.now in
     let e = scope_at c.args.db.now.records.words.now c.args.h in
-    c.offer.ensures ∙ entry_offered n c.args.x c.args.best c.args.c e c.scope_name-n.ensures
+    c.offer.ensures ∙ entry_offered n c.args.x (given c.args.best) (given c.args.c) e c.scope_name-n.ensures
     c.step_by-via.ensures

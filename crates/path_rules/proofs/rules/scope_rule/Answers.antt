@@ -6,7 +6,7 @@ use Rattle.path_rules.proofs.rules.scope_rule.Goals as goal
 pub returns-then-not-may_be_in_scope : goal.returns-then-not-may_be_in_scope
 returns-then-not-may_be_in_scope c =
     let n = snap_in c.args.db.now in
-    c.nothing.ensures ∙ scope_out n c.args.x c.args.item (sym (c.may_be_in_scope.ensures n)
+    scope_out n c.args.x c.args.item (sym (c.may_be_in_scope.ensures n)
     ∙ c.if-not-may_be_in_scope.true)
 
 pub returns : goal.returns

@@ -1,30 +1,33 @@
 use mathlib.Core.Path.{sym, ap, ap₂, ◌∙◌, subst}
 use Rattle.snapshot.specs.Records.{scope_at}
-use Rattle.snapshot.specs.Layouts.{snap_of}
+use Rattle.snapshot.specs.PathKinds.{path_kind_number}
 use Rattle.hir_def.specs.Entries.{entry_of}
 use Rattle.path_choices.specs.Choices.{choice_new}
+use Rattle.path_choices.specs.Given.{given}
 use Rattle.path_choices.specs.StepRules.{rule_number}
 use Rattle.find_path.specs.Conditions.{EntryFits}
 use Rattle.find_path.specs.Rules.{single}
+use Rattle.path_rules.proofs.RuleLaws.{kind_number}
 use Rattle.accept.specs.Opened.{snap_in}
 use Rattle.path_rules.proofs.rules.single.Goals as goal
 
-pub returns-in_default : goal.returns-in_default
+pub returns-in_err-h : goal.returns-in_err-h
 unfolding single
-returns-in_default c =
+returns-in_err-h c =
     λ x.
     (
     let n = snap_in c.args.db.now in
-    c.nothing.ensures ∙ sym (ap (λ e. single n x c.args.kind (rule_number c.args.rule) (entry_of scope_at c.args.db.now.records.words.now e))
-    c.in_default.is))
+    ap given c.from_residual.ensures
+    ∙ sym (ap (λ e. single n x (path_kind_number c.args.kind) (rule_number c.args.rule) (entry_of scope_at c.args.db.now.records.words.now e))
+    c.in_err-h.was))
 
 pub step_by-via-requires : goal.step_by-via-requires
 step_by-via-requires c =
-    (subst (EntryFits c.args.db.now.records.words.now c.args.db.now.records.layout) c.in-Some.is c.requires).place
+    (subst (EntryFits c.args.db.now.records.words.now c.args.db.now.records.layout) c.in_ok-h.was c.requires).place
 
 pub new-requires : goal.new-requires
 new-requires c =
-    let f = subst (EntryFits c.args.db.now.records.words.now c.args.db.now.records.layout) c.in-Some.is c.requires in
+    let f = subst (EntryFits c.args.db.now.records.words.now c.args.db.now.records.layout) c.in_ok-h.was c.requires in
     rw c.scope_name.ensures f.name
 
 pub returns : goal.returns
@@ -32,8 +35,9 @@ unfolding single
 returns c =
     λ x.
     (
-    let W = c.args.db.now.records.words.now in
-    let n = snap_of W c.args.db.now.area.now c.args.db.now.records.layout in
+    let n = snap_in c.args.db.now in
     c.new.ensures
-    ∙ ap₂ (choice_new n c.args.kind) c.scope_name.ensures c.step_by-via.ensures
-    ∙ sym (ap (λ e. single n x c.args.kind (rule_number c.args.rule) (entry_of scope_at W e)) c.in-Some.is))
+    ∙ ap (λ k. choice_new n k c.scope_name.result.0 c.step_by-via.result) (kind_number c.args.kind)
+    ∙ ap₂ (choice_new n (path_kind_number c.args.kind)) c.scope_name.ensures c.step_by-via.ensures
+    ∙ sym (ap (λ e. single n x (path_kind_number c.args.kind) (rule_number c.args.rule) (entry_of scope_at c.args.db.now.records.words.now e))
+    c.in_ok-h.was))

@@ -39,4 +39,4 @@ overflow_add-counts-2 c =
 
 pub returns : goal.returns
 returns c =
-    tallied_by c.args.reach c.args.r c.column-at.ensures c.names_found-names.ensures
+    tallied_by c.args.reach.counts c.args.r c.column-at.ensures c.names_found-names.ensures

@@ -7,11 +7,11 @@ use Rattle.accept.specs.Opened.{snap_in}
 use Rattle.read_back.proofs.blocks.entry_from.Goals as goal
 
 pub nearest-requires-clause-falls : goal.nearest-requires-clause-falls
-nearest-requires-clause-falls c = λ m b i p. step_less (outward_down c.args.db.now.reads) c.requires i (search rules)
+nearest-requires-clause-falls c = λ m b i p. step_less (outward_down c.args.view.now.db.reads) c.args.view.now.inside i (search rules)
 
 pub returns : goal.returns
 unfolding entry_from scopes_from
 returns c =
-    let S = snap_in c.args.db.now in
+    let S = snap_in c.args.view.now.db in
     c.nearest.ensures _ (λ m. get S m c.args.ns c.args.name.0) _
-    (outwards (outward_down c.args.db.now.reads) c.requires (λ m e i p. search rules) (λ m o i p. search rules))
+    (outwards (outward_down c.args.view.now.db.reads) c.args.view.now.inside (λ m e i p. search rules) (λ m o i p. search rules))

@@ -8,7 +8,7 @@ use Rattle.read_back.proofs.paths.follow.Goals as goal
 pub loop-k-preserved : goal.loop-k-preserved
 loop-k-preserved c =
     let g = c.loop-k in
-    follow_next (snap_in c.args.db.now) c.args.from.0 c.args.ns
+    follow_next (snap_in c.args.view.now.db) c.args.view.now.from.0 c.args.ns
     (λ i. get_or c.args.names.now i 0) _ g.k (length c.args.names.now) g.here _ _ g.invariant
     c.loop-k-test.true (c.looked_in-its.ensures (λ i. get_or c.args.names.now i 0))
     refl c.next_name-here.ensures
@@ -16,5 +16,5 @@ loop-k-preserved c =
 pub returns : goal.returns
 returns c =
     let g = c.loop-k in
-    follow_done (snap_in c.args.db.now) c.args.from.0 c.args.ns
+    follow_done (snap_in c.args.view.now.db) c.args.view.now.from.0 c.args.ns
     (λ i. get_or c.args.names.now i 0) _ g.k (length c.args.names.now) g.here g.invariant c.loop-k-test.false

@@ -9,5 +9,5 @@ use Rattle.read_back.proofs.paths.follow.Given as goal
 
 abbrev pub invariant-loop-k : goal.invariant-loop-k
 invariant-loop-k l =
-    follow (snap_in l.db) l.from.0 l.ns l.initial.here (rows (λ i. get_or l.names i 0) l.initial.k (length l.names - l.initial.k))
-    ≡ follow (snap_in l.db) l.from.0 l.ns l.here (rows (λ i. get_or l.names i 0) l.k (length l.names - l.k))
+    follow (snap_in l.view.db) l.view.from.0 l.ns l.initial.here (rows (λ i. get_or l.names i 0) l.initial.k (length l.names - l.initial.k))
+    ≡ follow (snap_in l.view.db) l.view.from.0 l.ns l.here (rows (λ i. get_or l.names i 0) l.k (length l.names - l.k))

@@ -1,72 +1,46 @@
-use mathlib.Core.Path.{refl, ap, ◌∙◌}
+use mathlib.Core.Path.{ap, ◌∙◌}
 use Rattle.std.specs.Prelude.{Some}
-use native.Mathlib.Omega.{arith}
-use Prim.Native.Nat.{ℕ}
-use mathlib.Core.Path.{◌≡◌}
-use mathlib.Core.List.{List}
-use Rattle.std.specs.Prelude.{Option}
-use Rattle.std.proofs.lemmas.List.{take_all}
-use Rattle.snapshot.specs.Records.{Snapshot}
-use Rattle.hir_def.specs.declared.Item.{Item}
-use Rattle.readings.specs.Reads.{reads_to}
-use lib.ListN.{get_or, take, length}
 use Rattle.hir_def.specs.Items.{module_item}
-use Rattle.read_back.proofs.Cases.{reads_self, reads_super, reads_crate, reads_absolute, reads_plain, reads_none, absolute_first, plain_first}
+use Rattle.read_back.proofs.Cases.{all_later, reads_by}
+use Rattle.readings.specs.Reads.{follow}
 use Rattle.accept.specs.Opened.{snap_in}
 use Rattle.read_back.proofs.paths.reads_to.Goals as goal
 
--- all the names
-all_names : (s : Snapshot) (from ns kind : ℕ) (N : List ℕ) {r : Option Item} → r ≡ reads_to s from ns kind (take (length N) N)
-    → r ≡ reads_to s from ns kind N
-all_names s from ns kind N e = e ∙ ap (reads_to s from ns kind) (take_all _ N (omega arith))
+pub returns-in-Some-SelfModule : goal.returns-in-Some-SelfModule
+returns-in-Some-SelfModule c =
+    let S = snap_in c.args.view.now.db in
+    let N = c.args.names.now in
+    reads_by S c.args.view.now.from.0 c.args.ns N c.args.kind c.of.ensures (c.in-Some-SelfModule.is ∙ ap Some c.in-Some-SelfModule.field-0-is)
+    (all_later S c.args.view.now.from.0 c.args.ns N _ c.follow.ensures
+    ∙ ap (λ x. follow S c.args.view.now.from.0 c.args.ns x N) (c.means_module-here.ensures ∙ ap (λ m. Some (module_item m)) c.stands_for.ensures.0))
 
-pub returns-then-kind : goal.returns-then-kind
-returns-then-kind c =
-    let n = snap_in c.args.db.now in
-    all_names n c.args.from.0 c.args.ns c.args.kind c.args.names.now (
-    reads_self n c.args.from.0 c.args.ns c.args.kind c.args.names.now (length c.args.names.now) (omega arith) _
-    c.follow.ensures c.if-kind.true (c.means_module-here.ensures
-    ∙ ap (λ m. Some (module_item m)) c.stands_for.ensures.0))
+pub returns-in-Some-Super : goal.returns-in-Some-Super
+returns-in-Some-Super c =
+    let S = snap_in c.args.view.now.db in
+    let N = c.args.names.now in
+    reads_by S c.args.view.now.from.0 c.args.ns N c.args.kind c.of.ensures (c.in-Some-Super.is ∙ ap Some c.in-Some-Super.field-0-is)
+    (all_later S c.args.view.now.from.0 c.args.ns N _ c.follow-in-Some-Super.ensures
+    ∙ ap (λ x. follow S c.args.view.now.from.0 c.args.ns x N) c.super_of.ensures)
 
-pub returns-then-kind-2 : goal.returns-then-kind-2
-returns-then-kind-2 c =
-    let n = snap_in c.args.db.now in
-    all_names n c.args.from.0 c.args.ns c.args.kind c.args.names.now (
-    reads_super n c.args.from.0 c.args.ns c.args.kind c.args.names.now (length c.args.names.now) (omega arith) _
-    c.follow-then-kind-2.ensures c.if-kind.false c.if-kind-2.true c.super_of-above.ensures)
+pub returns-in-Some-Crate : goal.returns-in-Some-Crate
+returns-in-Some-Crate c =
+    let S = snap_in c.args.view.now.db in
+    let N = c.args.names.now in
+    reads_by S c.args.view.now.from.0 c.args.ns N c.args.kind c.of.ensures (c.in-Some-Crate.is ∙ ap Some c.in-Some-Crate.field-0-is)
+    (all_later S c.args.view.now.from.0 c.args.ns N _ c.follow-in-Some-Crate.ensures
+    ∙ ap (λ x. follow S c.args.view.now.from.0 c.args.ns x N) (c.means_module-root.ensures ∙ ap (λ m. Some (module_item m)) c.crate_root.ensures))
 
-pub returns-then-kind-3 : goal.returns-then-kind-3
-returns-then-kind-3 c =
-    let n = snap_in c.args.db.now in
-    all_names n c.args.from.0 c.args.ns c.args.kind c.args.names.now (
-    reads_crate n c.args.from.0 c.args.ns c.args.kind c.args.names.now (length c.args.names.now) (omega arith) _
-    c.follow-then-kind-3.ensures c.if-kind.false c.if-kind-2.false
-    c.if-kind-3.true (c.means_module-root.ensures
-    ∙ ap (λ m. Some (module_item m)) c.crate_root.ensures))
+pub returns-in-Some-Absolute : goal.returns-in-Some-Absolute
+returns-in-Some-Absolute c =
+    reads_by (snap_in c.args.view.now.db) c.args.view.now.from.0 c.args.ns c.args.names.now c.args.kind c.of.ensures
+    (c.in-Some-Absolute.is ∙ ap Some c.in-Some-Absolute.field-0-is) c.absolutely.ensures
 
-pub returns-then-count-eq0 : goal.returns-then-count-eq0
-returns-then-count-eq0 c =
-    let n = snap_in c.args.db.now in
-    all_names n c.args.from.0 c.args.ns c.args.kind c.args.names.now (
-    reads_none n c.args.from.0 c.args.ns c.args.names.now
-    (length c.args.names.now) c.if-count-eq0.true c.args.kind c.if-kind.false c.if-kind-2.false c.if-kind-3.false)
+pub returns-in-Some-Plain : goal.returns-in-Some-Plain
+returns-in-Some-Plain c =
+    reads_by (snap_in c.args.view.now.db) c.args.view.now.from.0 c.args.ns c.args.names.now c.args.kind c.of.ensures
+    (c.in-Some-Plain.is ∙ ap Some c.in-Some-Plain.field-0-is) c.plainly.ensures
 
-pub returns-then-kind-4 : goal.returns-then-kind-4
-returns-then-kind-4 c =
-    let n = snap_in c.args.db.now in
-    all_names n c.args.from.0 c.args.ns c.args.kind c.args.names.now (
-    reads_absolute n c.args.from.0 c.args.ns c.args.kind (take (length c.args.names.now) c.args.names.now)
-    c.if-kind.false c.if-kind-2.false c.if-kind-3.false c.if-kind-4.true
-    (absolute_first n c.args.from.0 c.args.ns c.args.names.now (length c.args.names.now) (omega arith)
-    (omega (arith, c.if-count-eq0.false)) (c.looked_in-its.ensures (λ i. get_or c.args.names.now i 0))
-    refl c.in_externs-dependency.ensures c.follow-then-kind-4.ensures))
-
-pub returns : goal.returns
-returns c =
-    let n = snap_in c.args.db.now in
-    all_names n c.args.from.0 c.args.ns c.args.kind c.args.names.now (
-    reads_plain n c.args.from.0 c.args.ns c.args.kind (take (length c.args.names.now) c.args.names.now)
-    c.if-kind.false c.if-kind-2.false c.if-kind-3.false c.if-kind-4.false
-    (plain_first n c.args.from.0 c.args.ns c.args.names.now (length c.args.names.now) (omega arith) (omega (arith, c.if-count-eq0.false))
-    (c.looked_in-its.ensures (λ i. get_or c.args.names.now i 0)) refl c.first_name-first.ensures
-    c.follow-2.ensures))
+pub returns-in-None : goal.returns-in-None
+returns-in-None c =
+    reads_by (snap_in c.args.view.now.db) c.args.view.now.from.0 c.args.ns c.args.names.now c.args.kind c.of.ensures
+    c.in-None.is c.plainly-in-None.ensures

@@ -2,7 +2,7 @@ use mathlib.Core.Path.{refl, ap, ◌∙◌}
 use native.Mathlib.Omega.{arith}
 use lib.ListN.{length-set}
 use Prim.Native.Nat.{◌+◌}
-use Rattle.std.proofs.lemmas.Result.{err_from_is_err_and}
+use Rattle.check_rules.proofs.Exits.{err_is}
 use Rattle.snapshot.specs.Words.{words_of}
 use Rattle.snapshot.proofs.Laws.{refusal_some}
 use Rattle.record_rules.proofs.Indexed.{key_small}
@@ -11,8 +11,7 @@ use Rattle.record_rules.proofs.names.step.Goals as goal
 
 pub returns-in_err-judge : goal.returns-in_err-judge
 returns-in_err-judge c ms st =
-    let p = err_from_is_err_and c.from_residual.result c.from_residual.ensures.1 in
-    rw (p.1, p.2) (name_no c.args.words.now c.args.area.now c.args.at c.args.l ms st
+    rw (err_is _ _ c.from_residual.ensures.1) (name_no c.args.words.now c.args.area.now c.args.at c.args.l ms st
     c.in_err-judge.ensures
     c.in_range-range.ensures
     c.repeated-old.ensures

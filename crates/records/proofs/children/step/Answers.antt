@@ -2,7 +2,7 @@ use mathlib.Core.Path.{refl, ap}
 use mathlib.Core.Bool.{not}
 use native.Mathlib.Omega.{arith}
 use lib.Dec.{eqb}
-use Rattle.std.proofs.lemmas.Result.{err_from_is_err_and}
+use Rattle.check_rules.proofs.Exits.{err_is}
 use Rattle.snapshot.proofs.Laws.{refusal_some}
 use Rattle.records.proofs.Steps.{child_no, child_on}
 use Rattle.records.proofs.Linked.{child_small, child_linked}
@@ -10,8 +10,7 @@ use Rattle.records.proofs.children.step.Goals as goal
 
 pub returns-in_err-judge : goal.returns-in_err-judge
 returns-in_err-judge c ms st =
-    let p = err_from_is_err_and c.from_residual.result c.from_residual.ensures.1 in
-    rw (p.1, p.2) (child_no c.args.words.now c.args.area.now c.args.at c.args.l ms st
+    rw (err_is _ _ c.from_residual.ensures.1) (child_no c.args.words.now c.args.area.now c.args.at c.args.l ms st
     c.in_err-judge.ensures
     c.defined.ensures
     c.child_child-child.ensures

@@ -1,14 +1,13 @@
 use mathlib.Core.Path.{refl}
 use borrow.Author.Tests.{lt-ltb, le-ltb}
-use Rattle.std.proofs.lemmas.Result.{err_from_is_err_and}
+use Rattle.check_rules.proofs.Exits.{err_is}
 use Rattle.snapshot.proofs.Laws.{refusal_some}
 use Rattle.scope_edits.proofs.Numbers.{add_faulted, number_entry, number_47, number_48, number_0}
 use Rattle.scope_edits.proofs.entries.add_fault.Goals as goal
 
 pub returns-in_err-entry_fault : goal.returns-in_err-entry_fault
 returns-in_err-entry_fault c A r =
-    let p = err_from_is_err_and c.from_residual.result c.from_residual.ensures.1 in
-    rw (p.1, p.2) (add_faulted c.args.words.now A c.args.l c.args.entry.now c.args.slice r (number_entry _ _ _ (refusal_some _))
+    rw (err_is _ _ c.from_residual.ensures.1) (add_faulted c.args.words.now A c.args.l c.args.entry.now c.args.slice r (number_entry _ _ _ (refusal_some _))
     (c.in_err-entry_fault.ensures A) c.entry_place.ensures
     c.word-owner.ensures c.word-ns.ensures c.word-name.ensures)
 

@@ -8,8 +8,10 @@ use Rattle.snapshot.specs.declared.records.Records.{Records}
 use Rattle.hir_def.specs.Items.{item_of, ns_of}
 use Rattle.hir_def.specs.Entries.{Known, entry_of}
 use Rattle.hir_def.specs.declared.Item.{Item}
-use Rattle.find_path.specs.Charged.{found_of, variant_of}
+use Rattle.path_choices.specs.Given.{given}
+use Rattle.find_path.specs.Charged.{found_of, given_found, variant_of}
 use Rattle.search_laws.proofs.Tables.{same_reads}
+use Rattle.charged_search.proofs.Holding.{Offered}
 use Rattle.charged_search.proofs.Runs.{begun_later}
 use Rattle.search.proofs.Items.{number, item_ns, enum_no_variant, parent_of, inner_at_once, inner_by_name, name_found, name_plain}
 use Rattle.hir_def.proofs.Climbs.{some_number, none_number}
@@ -26,12 +28,11 @@ module _ (r : Records) (A : List ℕ) where
   enum_told : {i : Item} {d e : ℕ} → ((B : List ℕ) → i ≡ item_of (snap_by r B) 0 d) → d ≡ e → i ≡ item_of (snap_by r A) 0 e
   enum_told told is = told A ∙ ap (item_of (snap_by r A) 0) is
 
-pub find_by_name-returns-then-choice : goal.find_by_name-returns-then-choice
-find_by_name-returns-then-choice t c =
+pub find_by_name-returns-in-Some : goal.find_by_name-returns-in-Some
+find_by_name-returns-in-Some t c =
     let a = c.args in
     record {
-      same = name_found (snap_by a.records.now a.area.now) a.x a.item a.t c.named-choice.ensures
-          c.if-choice.true;
+      same = name_found (snap_by a.records.now a.area.now) a.x a.item a.t c.in-Some.ensures refl;
       tables = refl;
     }
 
@@ -39,14 +40,14 @@ pub find_by_name-calculate_best_path-requires : goal.find_by_name-calculate_best
 find_by_name-calculate_best_path-requires t c =
     (begun c.requires.0, c.requires.1, c.requires.2)
 
-pub find_by_name-returns-in_default : goal.find_by_name-returns-in_default
-find_by_name-returns-in_default t c =
+pub find_by_name-returns-in_default-variant_of : goal.find_by_name-returns-in_default-variant_of
+find_by_name-returns-in_default-variant_of t c =
     let a = c.args in
     let f = c.calculate_best_path in
     record {
       same = f.ensures.same ∙ ap found_of (name_plain (snap_by a.records.now a.area.now) a.x a.item a.t
-          c.named-choice.ensures
-          c.if-choice.false (definition_told a.records.now a.area.now a.item c.variant_of.ensures c.in_default.is));
+          c.in_default.ensures refl
+          (definition_told a.records.now a.area.now a.item c.variant_of.ensures c.in_default-variant_of.is));
       tables = f.ensures.tables;
     }
 
@@ -54,7 +55,8 @@ pub find_by_name-find_path_inner-o-requires : goal.find_by_name-find_path_inner-
 find_by_name-find_path_inner-o-requires t c =
     let a = c.args in
     let g = enum_told a.records.now a.area.now c.item_of-parent.ensures c.definition_first.ensures in
-    let p = parent_of _ _ _ c.requires.0.reads a.item _ c.requires.1.0 (definition_told a.records.now a.area.now a.item c.variant_of.ensures c.in-Some.is) in
+    let p = parent_of _ _ _ c.requires.0.reads a.item _ c.requires.1.0
+    (definition_told a.records.now a.area.now a.item c.variant_of.ensures c.in-Some-variant_of.is) in
     let n = ap number g in (
       omega (arith, c.decreases, p.falls, n),
       (
@@ -68,34 +70,8 @@ find_by_name-find_path_inner-o-requires t c =
       ),
     )
 
-pub find_by_name-invariant_of-db-then-best : goal.find_by_name-invariant_of-db-then-best
-find_by_name-invariant_of-db-then-best t c = record { reads = same_reads _ _ _ _ c.find_path_inner-o.ensures.tables c.requires.0.reads }
-
-pub find_by_name-push_variant-choice-requires : goal.find_by_name-push_variant-choice-requires
-find_by_name-push_variant-choice-requires t c =
-    let a = c.args in
-    let g = enum_told a.records.now a.area.now c.item_of-parent.ensures c.definition_first.ensures in
-    let p = parent_of _ _ _ c.requires.0.reads a.item _ c.requires.1.0 (definition_told a.records.now a.area.now a.item c.variant_of.ensures c.in-Some.is) in
-    let f = c.find_path_inner-o in
-    let q = enum_offered _ _ _ a.x _ a.t f.result c.requires.0
-    (subst (λ (y : Item). variant_of (snap_by a.records.now a.area.now) y ≡ None) (sym g) p.plain) f.ensures.same in (
-      omega (arith, c.definition_second.ensures, p.name),
-      q.few,
-      q.text,
-      q.steps,
-      p.place,
-    )
-
-pub find_by_name-returns-then-best : goal.find_by_name-returns-then-best
-find_by_name-returns-then-best t c =
-    let a = c.args in
-    enum_run c.requires.0 a.item a.t c.named-choice.ensures c.if-choice.false _
-    (definition_told a.records.now a.area.now a.item c.variant_of.ensures c.in-Some.is)
-    (enum_told a.records.now a.area.now c.item_of-parent.ensures c.definition_first.ensures)
-    c.find_path_inner-o.ensures c.if-best.true c.definition_second.ensures c.push_variant-choice.ensures
-
-pub find_by_name-calculate_best_path-requires-2 : goal.find_by_name-calculate_best_path-requires-2
-find_by_name-calculate_best_path-requires-2 t c =
+pub find_by_name-calculate_best_path-requires-in_default-choice : goal.find_by_name-calculate_best_path-requires-in_default-choice
+find_by_name-calculate_best_path-requires-in_default-choice t c =
     let a = c.args in (
       begun_later (begun c.requires.0) c.find_path_inner-o.ensures.tables (c.find_path_inner-o.array_long ∙ sym c.told-area),
       c.requires.1,
@@ -103,17 +79,45 @@ find_by_name-calculate_best_path-requires-2 t c =
         arith,
         c.requires.2,
         tank_stays
-            (snap_by a.records.now a.area.now) a.x _ a.t c.find_path_inner-o.result c.find_path_inner-o.ensures.same c.requires.2,
+            (snap_by a.records.now a.area.now) a.x _ a.t (given_found c.find_path_inner-o.result) c.find_path_inner-o.ensures.same c.requires.2,
       ),
+    )
+
+pub find_by_name-returns-in_default-choice : goal.find_by_name-returns-in_default-choice
+find_by_name-returns-in_default-choice t c =
+    let a = c.args in
+    else_run c.requires.0 a.item a.t c.in_default.ensures refl _
+    (definition_told a.records.now a.area.now a.item c.variant_of.ensures c.in-Some-variant_of.is)
+    (enum_told a.records.now a.area.now c.item_of-parent.ensures c.definition_first.ensures)
+    c.find_path_inner-o.ensures c.in_default-choice.is c.calculate_best_path-in_default-choice.ensures
+
+pub find_by_name-invariant_of-db-2 : goal.find_by_name-invariant_of-db-2
+find_by_name-invariant_of-db-2 t c = record { reads = same_reads _ _ _ _ c.find_path_inner-o.ensures.tables c.requires.0.reads }
+
+pub find_by_name-push_variant-c-requires : goal.find_by_name-push_variant-c-requires
+find_by_name-push_variant-c-requires t c =
+    let a = c.args in
+    let g = enum_told a.records.now a.area.now c.item_of-parent.ensures c.definition_first.ensures in
+    let p = parent_of _ _ _ c.requires.0.reads a.item _ c.requires.1.0
+    (definition_told a.records.now a.area.now a.item c.variant_of.ensures c.in-Some-variant_of.is) in
+    let f = c.find_path_inner-o in
+    let q = subst (λ z. Offered (given z)) c.in-Some-choice.is
+    (enum_offered _ _ _ a.x _ a.t (given_found f.result) c.requires.0
+    (subst (λ (y : Item). variant_of (snap_by a.records.now a.area.now) y ≡ None) (sym g) p.plain) f.ensures.same) in (
+      omega (arith, c.definition_second.ensures, p.name),
+      q.few,
+      q.text,
+      q.steps,
+      p.place,
     )
 
 pub find_by_name-returns : goal.find_by_name-returns
 find_by_name-returns t c =
     let a = c.args in
-    else_run c.requires.0 a.item a.t c.named-choice.ensures c.if-choice.false _
-    (definition_told a.records.now a.area.now a.item c.variant_of.ensures c.in-Some.is)
+    enum_run c.requires.0 a.item a.t c.in_default.ensures refl _
+    (definition_told a.records.now a.area.now a.item c.variant_of.ensures c.in-Some-variant_of.is)
     (enum_told a.records.now a.area.now c.item_of-parent.ensures c.definition_first.ensures)
-    c.find_path_inner-o.ensures c.if-best.false c.calculate_best_path-2.ensures
+    c.find_path_inner-o.ensures c.in-Some-choice.is c.definition_second.ensures c.push_variant-c.ensures
 
 pub find_path_inner-returns-in_default : goal.find_path_inner-returns-in_default
 find_path_inner-returns-in_default t c =

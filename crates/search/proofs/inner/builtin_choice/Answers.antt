@@ -1,4 +1,3 @@
-use Rattle.hir_def.proofs.Fits.{few_words}
 use Rattle.search.proofs.Starts.{builtin_at, builtin_name, builtin_same}
 use Rattle.search.proofs.inner.builtin_choice.Goals as goal
 

@@ -7,7 +7,7 @@ use Rattle.hir_def.specs.Items.{ns_of}
 use Rattle.hir_def.specs.Entries.{Known}
 use Rattle.hir_def.specs.declared.Item.{Item}
 use Rattle.hir_def.proofs.Climbs.{some_number, none_number}
-use Rattle.hir_def.proofs.Fits.{few_words, item_known}
+use Rattle.hir_def.proofs.Fits.{item_known}
 use Rattle.snapshot.specs.declared.ids.DefinitionKind.TheVariants.{Builtin}
 use Rattle.hir_def.proofs.KindTests.{kind_is}
 use Rattle.find_path.specs.Rules.{module_in}
@@ -18,8 +18,8 @@ use Rattle.search.proofs.Starts.{builtin_kind_lem, home_there, context_from, con
 use Rattle.snapshot.specs.Laid.{snap_by}
 use Rattle.search.proofs.inner.find_path.Goals as goal
 
-pub builtin_choice-choice-requires : goal.builtin_choice-choice-requires
-builtin_choice-choice-requires c =
+pub builtin_choice-requires : goal.builtin_choice-requires
+builtin_choice-requires c =
     let a = c.args in (
       c.requires.1,
       builtin_kind_lem (snap_by a.records.now a.area.now) a.q.ns a.q.definition.0
@@ -31,7 +31,7 @@ returns-then-q-eq c =
     let a = c.args in
     record {
       same = start_builtin (snap_by a.records.now a.area.now) a.q a.fuel
-          refl (ap (λ b. eqb a.q.ns 0 && b) (sym (kind_is Builtin _ c.eq.ensures (c.known_kind_of.ensures a.area.now))) ∙ c.if-q-eq.true) c.builtin_choice-choice.ensures;
+          refl (ap (λ b. eqb a.q.ns 0 && b) (sym (kind_is Builtin _ c.eq.ensures (c.known_kind_of.ensures a.area.now))) ∙ c.if-q-eq.true) c.builtin_choice.ensures;
       tables = refl;
     }
 
@@ -42,7 +42,7 @@ returns-in_default c =
       same = start_none (snap_by a.records.now a.area.now) a.q a.fuel _ _
           refl (ap (λ b. eqb a.q.ns 0 && b) (sym (kind_is Builtin _ c.eq.ensures (c.known_kind_of.ensures a.area.now))) ∙ c.if-q-eq.false)
           (c.item_of-item.ensures a.area.now) (c.home_of.ensures a.area.now)
-          (none_number _ refl c.in_default.is) c.nothing-choice.ensures;
+          (none_number _ refl c.in_default.is);
       tables = refl;
     }
 

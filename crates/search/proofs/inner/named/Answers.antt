@@ -1,15 +1,15 @@
-use Rattle.search.proofs.Items.{first_one, first_two, first_none}
+use mathlib.Core.Path.{refl, ◌∙◌}
+use Rattle.accept.specs.Opened.{snap_in}
+use Rattle.find_path.specs.Rules.{find_in_prelude, prelude_rule}
+use Rattle.path_rules.proofs.RuleLaws.{first_hit, first_miss, single_last}
 use Rattle.search.proofs.inner.named.Goals as goal
 
-pub returns-then-scope : goal.returns-then-scope
-returns-then-scope c = first_one _ _ c.scope_rule-scope.ensures c.if-scope.true
-
-pub returns-then-prelude : goal.returns-then-prelude
-returns-then-prelude c =
-    first_two _ _ c.scope_rule-scope.ensures c.if-scope.false c.prelude_rule-prelude.ensures c.if-prelude.true
+pub returns-in-Some : goal.returns-in-Some
+returns-in-Some c = first_hit _ c.in-Some.ensures refl
 
 pub returns : goal.returns
+unfolding prelude_rule
 returns c =
-    first_none _ _ c.scope_rule-scope.ensures c.if-scope.false
-    c.prelude_rule-prelude.ensures c.if-prelude.false
-    c.nothing.ensures
+    let n = snap_in c.args.db.now in
+    c.prelude_rule.ensures ∙ single_last n c.args.x 0 2 (find_in_prelude n c.args.x c.args.item)
+    ∙ first_miss _ c.in_default.ensures refl

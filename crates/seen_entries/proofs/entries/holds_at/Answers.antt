@@ -7,13 +7,10 @@ use Rattle.accept.specs.Opened.{snap_in}
 use Rattle.seen_entries.proofs.entries.holds_at.Goals as goal
 
 pub holds-requires : goal.holds-requires
-holds-requires c = (
-  c.requires.0,
-  rw c.scope_seen.ensures (number_within _ _ c.requires.1.inside),
-)
+holds-requires c = rw c.scope_seen.ensures (number_within _ _ c.requires.inside)
 
 pub returns : goal.returns
 returns c =
-    let n = snap_in c.args.db.now in
-    c.holds.ensures ∙ ap (λ w. holds n (visibility_kind w) (visibility_number w) c.args.v.0) c.scope_seen.ensures
+    let n = snap_in c.args.view.now.db in
+    c.holds.ensures ∙ ap (λ w. holds n (visibility_kind w) (visibility_number w) c.args.view.now.from.0) c.scope_seen.ensures
     ∙ holds_by n _ _ _

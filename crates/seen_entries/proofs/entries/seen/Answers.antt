@@ -7,15 +7,15 @@ use Rattle.seen_entries.proofs.entries.seen.Goals as goal
 
 pub returns-then-both_hold : goal.returns-then-both_hold
 returns-then-both_hold c =
-    let n = (snap_in c.args.db.now) in
-    let e = (scope_at c.args.db.now.records.words.now c.args.h) in
+    let n = (snap_in c.args.view.now.db) in
+    let e = (scope_at c.args.view.now.db.records.words.now c.args.h) in
     c.both_hold-then-both_hold.ensures
-    ∙ seen_so n e c.args.from.0 (ap (λ x. both_hold n x e) (sym c.scope_owner.ensures)
+    ∙ seen_so n e c.args.view.now.from.0 (ap (λ x. both_hold n x e) (sym c.scope_owner.ensures)
     ∙ sym c.both_hold.ensures ∙ c.if-both_hold.true)
 
 pub returns : goal.returns
 returns c =
-    let n = (snap_in c.args.db.now) in
-    let e = (scope_at c.args.db.now.records.words.now c.args.h) in
-    seen_not n e c.args.from.0 (ap (λ x. both_hold n x e) (sym c.scope_owner.ensures)
+    let n = (snap_in c.args.view.now.db) in
+    let e = (scope_at c.args.view.now.db.records.words.now c.args.h) in
+    seen_not n e c.args.view.now.from.0 (ap (λ x. both_hold n x e) (sym c.scope_owner.ensures)
     ∙ sym c.both_hold.ensures ∙ c.if-both_hold.false)

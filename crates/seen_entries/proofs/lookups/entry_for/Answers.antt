@@ -13,13 +13,13 @@ pub first_where-requires : goal.first_where-requires
 first_where-requires c = record {
   takes =
       λ i b.
-      let f = spanned_fits c.args.db.now.records.words.now c.args.db.now.area.now c.args.db.now.records.layout c.args.db.now.reads c.scopes.ensures b in
+      let f = spanned_fits c.args.view.now.db.records.words.now c.args.view.now.db.area.now c.args.view.now.db.records.layout c.args.view.now.db.reads c.scopes.ensures b in
       grind serving;
 }
 
 pub returns : goal.returns
 unfolding names_of
 returns c =
-    let S = snap_in c.args.db.now in
-    first_in (λ e. is_for S c.args.m.0 c.args.item e && seen S c.args.from.0 e) scope_at c.args.db.now.records.words.now
+    let S = snap_in c.args.view.now.db in
+    first_in (λ e. is_for S c.args.m.0 c.args.item e && seen S c.args.view.now.from.0 e) scope_at c.args.view.now.db.records.words.now
     c.scopes.ensures (λ h t p. search rules) _ c.first_where.ensures

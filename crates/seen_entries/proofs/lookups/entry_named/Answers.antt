@@ -14,12 +14,12 @@ pub first_where-requires : goal.first_where-requires
 first_where-requires c = record {
   takes =
       λ i b.
-      let f = spanned_fits c.args.db.now.records.words.now c.args.db.now.area.now c.args.db.now.records.layout c.args.db.now.reads c.scopes.ensures b in
+      let f = spanned_fits c.args.view.now.db.records.words.now c.args.view.now.db.area.now c.args.view.now.db.records.layout c.args.view.now.db.reads c.scopes.ensures b in
       grind serving;
 }
 
 pub returns : goal.returns
 unfolding seen_named
 returns c =
-    first_in (λ e. is_named c.args.m.0 c.args.ns c.args.name.0 e && seen (snap_in c.args.db.now) c.args.from.0 e)
-    scope_at c.args.db.now.records.words.now c.scopes.ensures (λ h t p. search rules) _ c.first_where.ensures
+    first_in (λ e. is_named c.args.m.0 c.args.ns c.args.name.0 e && seen (snap_in c.args.view.now.db) c.args.view.now.from.0 e)
+    scope_at c.args.view.now.db.records.words.now c.scopes.ensures (λ h t p. search rules) _ c.first_where.ensures

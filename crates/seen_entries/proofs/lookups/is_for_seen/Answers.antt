@@ -4,8 +4,8 @@ use Rattle.seen_entries.proofs.lookups.is_for_seen.Goals as goal
 
 pub returns-then-is_for : goal.returns-then-is_for
 returns-then-is_for c =
-    c.seen.ensures ∙ and_so _ _ (sym (c.is_for.ensures c.args.db.now.area.now) ∙ c.if-is_for.true)
+    c.seen.ensures ∙ and_so _ _ (sym (c.is_for.ensures c.args.view.now.db.area.now) ∙ c.if-is_for.true)
 
 pub returns : goal.returns
 returns c =
-    and_no _ _ (sym (c.is_for.ensures c.args.db.now.area.now) ∙ c.if-is_for.false)
+    and_no _ _ (sym (c.is_for.ensures c.args.view.now.db.area.now) ∙ c.if-is_for.false)

@@ -10,18 +10,18 @@ use Rattle.seen_entries.proofs.privacy.holds.Goals as goal
 
 pub returns-in-Public : goal.returns-in-Public
 returns-in-Public c =
-    holds_public (snap_in c.args.db.now) _ (visibility_number c.args.visibility)
-    c.args.viewer.0 (ap visibility_kind c.in-Public.is)
+    holds_public (snap_in c.args.view.now.db) _ (visibility_number c.args.visibility)
+    c.args.view.now.from.0 (ap visibility_kind c.in-Public.is)
 
 pub returns-in-InCrate : goal.returns-in-InCrate
 returns-in-InCrate c =
     c.eq.ensures ∙ ap₂ eqb c.krate.ensures (sym (ap visibility_number c.in-InCrate.is))
-    ∙ holds_crate (snap_in c.args.db.now) _ (visibility_number c.args.visibility)
-    c.args.viewer.0 (ap visibility_kind c.in-InCrate.is)
+    ∙ holds_crate (snap_in c.args.view.now.db) _ (visibility_number c.args.visibility)
+    c.args.view.now.from.0 (ap visibility_kind c.in-InCrate.is)
 
 pub returns-in-InModule : goal.returns-in-InModule
 unfolding holds
 returns-in-InModule c =
-    let n = snap_in c.args.db.now in
-    let f = λ (w : Visibility). holds n (visibility_kind w) (visibility_number w) c.args.viewer.0 in
+    let n = snap_in c.args.view.now.db in
+    let f = λ (w : Visibility). holds n (visibility_kind w) (visibility_number w) c.args.view.now.from.0 in
     c.privately.ensures ∙ elim c.in-InModule.is [ inl e ↦ ap f (sym e) | inr e ↦ ap f (sym e) ]

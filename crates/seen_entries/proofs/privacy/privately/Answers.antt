@@ -8,5 +8,5 @@ use Rattle.seen_entries.proofs.privacy.privately.Goals as goal
 pub returns : goal.returns
 unfolding privately
 returns c =
-    c.meets.ensures ∙ ap (met (containing (snap_in c.args.db.now)) c.args.viewer.0)
+    c.meets.ensures ∙ ap (met (containing (snap_in c.args.view.now.db)) c.args.view.now.from.0)
     c.module_around-t.ensures.0

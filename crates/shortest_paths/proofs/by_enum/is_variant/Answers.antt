@@ -21,6 +21,6 @@ returns-in_default c =
 
 pub returns : goal.returns
 returns c =
-    λ (A : List ℕ). variant_some (snap_by c.args.records.now A) c.args.ns c.args.d.0 c.args.e.0
+    λ (A : List ℕ). c.eq.ensures ∙ variant_some (snap_by c.args.records.now A) c.args.ns c.args.d.0 c.args.e.0
     c.args.name.0 (omega (arith, c.if-ns-ge-MACROS.false))
-    (sym (ap (entry_of member_at c.args.records.now.words.now) c.in-Some.is) ∙ c.variant_named.ensures A) c.member_definition-its.ensures
+    (sym (ap (entry_of member_at c.args.records.now.words.now) c.in-Some.is) ∙ c.variant_named.ensures A) c.member_definition.ensures

@@ -1,5 +1,5 @@
 use mathlib.Core.Bool.{true, false}
-use Rattle.shortest_paths.proofs.Laws.{run_ready, run_reads, both_told}
+use Rattle.shortest_paths.proofs.Laws.{run_same, run_reads, both_told}
 use Rattle.shortest_paths.proofs.shortest.shortest.Goals as goal
 
 pub invariant_of-db : goal.invariant_of-db
@@ -7,11 +7,8 @@ invariant_of-db c = let g = c.run_keywords-n.ensures in record { reads = run_rea
 
 pub shortest_of-a-requires : goal.shortest_of-a-requires
 shortest_of-a-requires c =
-    let g = c.run_keywords-n.ensures in (
-      c.requires.1,
-      run_ready
-          c.args.records.now.words.now c.args.area.now c.args.records.now.layout c.requires.0 c.args.from.0 false g,
-    )
+    let g = c.run_keywords-n.ensures in
+    record { rows = g.run; same = run_same c.args.records.now.words.now c.args.area.now c.args.records.now.layout c.requires.0 c.args.from.0 false g }
 
 pub run_plain-m-requires : goal.run_plain-m-requires
 run_plain-m-requires c =
@@ -27,11 +24,8 @@ pub shortest_of-b-requires : goal.shortest_of-b-requires
 shortest_of-b-requires c =
     let g = c.run_keywords-n.ensures in
     let h = c.run_plain-m.ensures in
-    let r = run_reads c.args.records.now.words.now c.args.area.now c.args.records.now.layout c.requires.0 c.args.from.0 false g in (
-      c.requires.1,
-      run_ready c.args.records.now.words.now _
-          c.args.records.now.layout r c.args.from.0 true h,
-    )
+    let r = run_reads c.args.records.now.words.now c.args.area.now c.args.records.now.layout c.requires.0 c.args.from.0 false g in
+    record { rows = h.run; same = run_same c.args.records.now.words.now _ c.args.records.now.layout r c.args.from.0 true h }
 
 pub returns : goal.returns
 returns c =

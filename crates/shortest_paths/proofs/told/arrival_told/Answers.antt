@@ -4,10 +4,10 @@ use Rattle.shortest_paths.proofs.told.arrival_told.Goals as goal
 
 pub tell-requires : goal.tell-requires
 tell-requires c = (
-  ready_few c.args.db.now.records.words.now c.args.db.now.area.now c.args.db.now.records.layout c.args.db.now.reads _ _ c.requires.0 c.requires.1,
+  ready_few c.args.view.now _ c.requires,
   leads_link _ _ _
       _ _ _ _ c.arrive-step.ensures,
-  c.requires.1.rows.linked,
+  c.requires.rows.linked,
 )
 
 pub returns : goal.returns

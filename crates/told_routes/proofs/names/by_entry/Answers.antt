@@ -7,5 +7,4 @@ use Rattle.told_routes.proofs.names.by_entry.Goals as goal
 
 pub returns : goal.returns
 returns c =
-    λ (A : List ℕ). answers_entry (snap_by c.args.records.now A) (scope_at c.args.records.now.words.now c.args.h) (c.item_of-item.ensures A)
-    c.scope_ns-ns.ensures c.scope_definition.ensures
+    λ (A : List ℕ). answers_entry (snap_by c.args.records.now A) (scope_at c.args.records.now.words.now c.args.h) (c.item_at-item.ensures A)

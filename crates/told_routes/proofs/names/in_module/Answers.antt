@@ -8,14 +8,14 @@ use Rattle.told_routes.proofs.names.in_module.Goals as goal
 
 pub returns-in_err-h : goal.returns-in_err-h
 returns-in_err-h c =
-    let S = snap_in c.args.db.now in
-    answers_as (entry_by S c.args.from.0 c.args.ns c.args.m.0 c.args.name.0
-    (sym (ap (entry_of scope_at c.args.db.now.records.words.now) c.in_err-h.was) ∙ c.entry_named.ensures))
+    let S = snap_in c.args.view.now.db in
+    answers_as (entry_by S c.args.view.now.from.0 c.args.ns c.args.m.0 c.args.name.0
+    (sym (ap (entry_of scope_at c.args.view.now.db.records.words.now) c.in_err-h.was) ∙ c.entry_named.ensures))
     c.from_residual.ensures
 
 pub returns : goal.returns
 returns c =
-    let S = snap_in c.args.db.now in
-    answers_as (entry_by S c.args.from.0 c.args.ns c.args.m.0 c.args.name.0
-    (sym (ap (entry_of scope_at c.args.db.now.records.words.now) c.in_ok-h.was) ∙ c.entry_named.ensures))
-    (ap Some (c.by_entry.ensures c.args.db.now.area.now))
+    let S = snap_in c.args.view.now.db in
+    answers_as (entry_by S c.args.view.now.from.0 c.args.ns c.args.m.0 c.args.name.0
+    (sym (ap (entry_of scope_at c.args.view.now.db.records.words.now) c.in_ok-h.was) ∙ c.entry_named.ensures))
+    (ap Some (c.by_entry.ensures c.args.view.now.db.area.now))

@@ -5,14 +5,14 @@ use Rattle.told_routes.proofs.names.read_after.Goals as goal
 
 pub returns-in_err-x : goal.returns-in_err-x
 returns-in_err-x c =
-    let S = snap_in c.args.db.now in
+    let S = snap_in c.args.view.now.db in
     λ o h.
-    answers_as (after_nothing (λ x. named c.args.name.0 (within S c.args.from.0 c.args.ns x)) c.in_err-x.was o h)
+    answers_as (after_nothing (λ x. named c.args.name.0 (within S c.args.view.now.from.0 c.args.ns x)) c.in_err-x.was o h)
     c.from_residual.ensures
 
 pub returns : goal.returns
 returns c =
-    let S = snap_in c.args.db.now in
+    let S = snap_in c.args.view.now.db in
     λ o h.
-    answers_as (after_thing (λ x. named c.args.name.0 (within S c.args.from.0 c.args.ns x)) c.in_ok-x.was o h)
+    answers_as (after_thing (λ x. named c.args.name.0 (within S c.args.view.now.from.0 c.args.ns x)) c.in_ok-x.was o h)
     c.in_item.ensures

@@ -8,19 +8,19 @@ use Rattle.told_routes.proofs.names.read_alone.Goals as goal
 pub returns-in_err-h : goal.returns-in_err-h
 unfolding record_read
 returns-in_err-h c =
-    let S = snap_in c.args.db.now in
-    answers_as (sym (ap (record_read S c.args.db.now.records.words.now) c.in_err-h.was) ∙ c.read_plain.ensures) c.from_residual.ensures
+    let S = snap_in c.args.view.now.db in
+    answers_as (sym (ap (record_read S c.args.view.now.db.records.words.now) c.in_err-h.was) ∙ c.read_plain.ensures) c.from_residual.ensures
 
 pub returns-in-Scope : goal.returns-in-Scope
 unfolding record_read
 returns-in-Scope c =
-    let S = snap_in c.args.db.now in
+    let S = snap_in c.args.view.now.db in
     let read = c.in_ok-h.was ∙ ap Some c.in-Scope.is in
-    answers_as (sym (ap (record_read S c.args.db.now.records.words.now) read) ∙ c.read_plain.ensures) (ap Some (c.by_entry-its.ensures c.args.db.now.area.now))
+    answers_as (sym (ap (record_read S c.args.view.now.db.records.words.now) read) ∙ c.read_plain.ensures) (ap Some (c.by_entry-its.ensures c.args.view.now.db.area.now))
 
 pub returns-in-Extern : goal.returns-in-Extern
 unfolding record_read
 returns-in-Extern c =
-    let S = snap_in c.args.db.now in
+    let S = snap_in c.args.view.now.db in
     let read = c.in_ok-h.was ∙ ap Some c.in-Extern.is in
-    answers_as (sym (ap (record_read S c.args.db.now.records.words.now) read) ∙ c.read_plain.ensures) (ap Some c.by_extern-its.ensures)
+    answers_as (sym (ap (record_read S c.args.view.now.db.records.words.now) read) ∙ c.read_plain.ensures) (ap Some c.by_extern-its.ensures)

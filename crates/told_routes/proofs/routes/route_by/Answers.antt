@@ -12,15 +12,15 @@ use Rattle.told_routes.proofs.routes.route_by.Goals as goal
 
 pub loop-k-init : goal.loop-k-init
 loop-k-init c =
-    let S = snap_in c.args.db.now in
+    let S = snap_in c.args.view.now.db in
     λ u e.
-    walked_start S c.args.from.0 c.args.ns c.args.t.kind u c.args.t.names
+    walked_start S c.args.view.now.from.0 c.args.ns c.args.t.kind u c.args.t.names
     c.args.t.count e
 
 pub loop-k-preserved : goal.loop-k-preserved
 loop-k-preserved c =
-    let S = snap_in c.args.db.now in
-    let from = c.args.from.0 in
+    let S = snap_in c.args.view.now.db in
+    let from = c.args.view.now.from.0 in
     let kind = c.args.t.kind in
     let names = c.args.t.names in
     let count = c.args.t.count in
@@ -29,11 +29,11 @@ loop-k-preserved c =
     λ u e.
     let next = c.read_name-x.ensures (path_by kind u names c.loop-k.k)
     (walked_here S from c.args.ns kind u names count (c.loop-k.invariant u e) c.loop-k-test.true) in
-    walked_next S from c.args.ns kind u names count (c.loop-k.invariant u e) c.loop-k-test.true c.requires.1 c.looked_in-its.ensures
+    walked_next S from c.args.ns kind u names count (c.loop-k.invariant u e) c.loop-k-test.true c.requires c.looked_in-its.ensures
     (mapped ∙ item_answered _ next) (placed ∙ place_answered _ next)
 
 pub returns : goal.returns
 returns c =
-    let S = snap_in c.args.db.now in
-    walked_done S c.args.from.0 c.args.ns c.args.t.kind c.args.t.supers c.args.t.names
+    let S = snap_in c.args.view.now.db in
+    walked_done S c.args.view.now.from.0 c.args.ns c.args.t.kind c.args.t.supers c.args.t.names
     c.args.t.count (c.loop-k.invariant c.args.t.supers c.start-here.ensures) (omega (arith, c.loop-k-test.false))

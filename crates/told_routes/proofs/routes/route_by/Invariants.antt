@@ -9,5 +9,5 @@ use Rattle.told_routes.proofs.routes.route_by.Given as goal
 
 abbrev pub invariant-loop-k : goal.invariant-loop-k
 invariant-loop-k l =
-    (u : ℕ) → l.initial.here ≡ item_in (reads (snap_in l.db) l.from.0 types (keyword (keyword_by l.kind u)))
-    → Walked (snap_in l.db) l.from.0 l.ns l.kind u l.names l.count l.here l.route l.k
+    (u : ℕ) → l.initial.here ≡ item_in (reads (snap_in l.view.db) l.view.from.0 types (keyword (keyword_by l.kind u)))
+    → Walked (snap_in l.view.db) l.view.from.0 l.ns l.kind u l.names l.count l.here l.route l.k

@@ -16,7 +16,7 @@ returns-then-t-gt-LIMIT c =
 
 pub returns : goal.returns
 returns c =
-    let S = snap_in c.args.db.now in
+    let S = snap_in c.args.view.now.db in
     λ p e h.
     c.route_by.ensures
-    ∙ ap (λ (q : Path). padded (route_of S c.args.from.0 c.args.ns q)) (told_by_lem p e h)
+    ∙ ap (λ (q : Path). padded (route_of S c.args.view.now.from.0 c.args.ns q)) (told_by_lem p e h)

@@ -4,10 +4,10 @@ use Rattle.told_routes.proofs.starts.start.Goals as goal
 
 pub returns-in-Crate : goal.returns-in-Crate
 returns-in-Crate c =
-    let S = snap_in c.args.db.now in
-    start_crate S c.args.from.0 c.args.kind c.args.supers _ c.in-Crate.is c.crate_root.ensures
+    let S = snap_in c.args.view.now.db in
+    start_crate S c.args.view.now.from.0 c.args.kind c.args.supers _ c.in-Crate.is c.crate_root.ensures
 
 pub returns-in-Plain : goal.returns-in-Plain
 returns-in-Plain c =
-    let S = snap_in c.args.db.now in
-    start_above S c.args.from.0 c.args.kind c.args.supers c.in-Plain.is c.module_around.ensures.0 c.above.ensures
+    let S = snap_in c.args.view.now.db in
+    start_above S c.args.view.now.from.0 c.args.kind c.args.supers c.in-Plain.is c.module_around.ensures.0 c.above.ensures

@@ -1,5 +1,5 @@
 use mathlib.Core.Path.{refl, ap, ◌∙◌}
-use Rattle.std.proofs.lemmas.Result.{err_from_is_err_and}
+use Rattle.check_rules.proofs.Exits.{err_is}
 use Rattle.snapshot.proofs.Laws.{refusal_some}
 use Rattle.questions.specs.Questions.{question_of}
 use Rattle.window_rules.specs.States.{waiting, with_row}
@@ -10,8 +10,7 @@ use Rattle.windows.proofs.values.placed.Goals as goal
 pub returns-in_err-free : goal.returns-in_err-free
 returns-in_err-free c =
     let s = c.args in
-    let p = err_from_is_err_and c.from_residual.result c.from_residual.ensures.1 in
-    rw (p.1, p.2) (placed_not (words_of s.windows) s.window _ _ c.in_err-free.ensures.0 (refusal_some _))
+    rw (err_is _ _ c.from_residual.ensures.1) (placed_not (words_of s.windows) s.window _ _ c.in_err-free.ensures.0 (refusal_some _))
 
 pub returns : goal.returns
 returns c =

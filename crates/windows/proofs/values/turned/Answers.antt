@@ -7,7 +7,7 @@ use Rattle.windows.proofs.values.turned.Goals as goal
 pub returns-in_default : goal.returns-in_default
 returns-in_default c =
     let s = c.args in
-    turned_not (words_of s.windows) s.words.now s.area.now _ c.in_default.ensures refl _ c.idle_turn-turn.ensures
+    turned_not (words_of s.windows) s.words.now s.area.now _ c.in_default.ensures refl
 
 pub returns : goal.returns
 returns c =

@@ -1,7 +1,6 @@
-use Rattle.std.proofs.lemmas.Result.{err_from_is_err_and}
+use Rattle.check_rules.proofs.Exits.{err_is}
 use Rattle.windows.proofs.windows.place.Goals as goal
 
 pub returns-in_err-windows : goal.returns-in_err-windows
 returns-in_err-windows c =
-    let p = err_from_is_err_and c.from_residual.result c.from_residual.ensures.1 in
-    rw (p.1, p.2) c.in_err-windows.ensures
+    rw (err_is _ _ c.from_residual.ensures.1) c.in_err-windows.ensures

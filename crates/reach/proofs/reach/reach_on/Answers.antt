@@ -1,17 +1,16 @@
 use mathlib.Core.Path.{refl}
-use Rattle.std.proofs.lemmas.Result.{err_from_is_err_and}
+use Rattle.check_rules.proofs.Exits.{err_is}
 use Rattle.snapshot.specs.Limits.{area_limit}
 use Rattle.snapshot.specs.Layouts.{snap_of}
 use Rattle.snapshot.proofs.Laws.{refusal_some}
-use Rattle.checked.proofs.Laws.{fault_at, fault_free, reads_of, modules_count}
+use Rattle.checked.proofs.Laws.{fault_free, reads_of, modules_count}
 use Rattle.reach_parts.specs.Reach.{query_for}
 use Rattle.reach.proofs.Laws.{reach_fault, reach_verdict, by_refusal, by_answer, unknown_module, known_module}
-use Rattle.reach.proofs.reach.counted.Goals as goal
+use Rattle.reach.proofs.reach.reach_on.Goals as goal
 
 pub returns-in_err-call_fault : goal.returns-in_err-call_fault
 returns-in_err-call_fault c =
-    let p = err_from_is_err_and c.from_residual.result c.from_residual.ensures.1 in
-    rw (p.1, p.2) (record {
+    rw (err_is _ _ c.from_residual.ensures.1) (record {
       reach = reach_fault c.args.v _ c.args.words.now area_limit _ c.in_err-call_fault.ensures (refusal_some _) refl;
       checked = c.requires;
     })
@@ -19,9 +18,8 @@ returns-in_err-call_fault c =
 pub returns-in_err-layout : goal.returns-in_err-layout
 returns-in_err-layout c =
     let s = c.args in
-    let p = err_from_is_err_and c.from_residual-in_err-layout.result c.from_residual-in_err-layout.ensures.1 in
     let k = by_refusal s.v _ s.words.now s.area.now s.c c.requires _ c.in_err-layout.was refl in
-    rw (p.1, p.2) (record {
+    rw (err_is _ _ c.from_residual-in_err-layout.ensures.1) (record {
       reach = reach_verdict s.v _ s.words.now area_limit _ c.in_ok-call_fault.ensures refl k.0;
       checked = k.1;
     })
@@ -54,7 +52,7 @@ returns c =
     let l = c.in_ok-layout.layout in
     let f = c.reach_in.ensures in
     let e = known_module s.v _ (snap_of s.words.now s.area.now l) _ (modules_count s.words.now s.area.now l) c.if-layout-v.false
-    f.number_value.0 f.number_value.1 in
+    refl f.value in
     let k = by_answer s.v _ s.words.now s.area.now s.c c.requires l _ c.in_ok-layout.was f.area_unchanged e in
     record {
       reach = reach_verdict s.v _ s.words.now area_limit _ c.in_ok-call_fault.ensures refl k.0;
