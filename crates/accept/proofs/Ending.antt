@@ -21,12 +21,15 @@ use Rattle.snapshot.proofs.Laws.{length_rows, get_d_rows}
 use Rattle.check_rules.specs.Tests.{no_map, is_own, is_in, maps_filled, crates_own}
 use Rattle.check_rules.specs.Verdict.{accept, finish, verdict}
 use Rattle.record_rules.specs.Stands.{own_of, Stands, Rooted}
+use Rattle.record_index.specs.Index.{Index, Sized}
 use Rattle.accept.specs.Post.{Judged}
 use Rattle.accept.specs.Ends.{Ended}
 use Rattle.std.specs.Prelude.{Ok, Err}
 use Rattle.snapshot.specs.declared.refusal.Refusal.TheVariants.{Words, Place}
 use Rattle.accept.specs.declared.check.Refused.{Refused}
 use Rattle.record_rules.proofs.Judged.{and_left, and_right}
+use Rattle.accept.proofs.Valid.{accepted_valid}
+use Rattle.accept.proofs.Reading.{dependency_read, scope_read, import_read, extern_read}
 use Rattle.module_records.proofs.Regions.{own_any}
 use Rattle.record_rules.proofs.Tabled.{Kept, names_kept, modules_kept, heads_kept}
 
@@ -182,13 +185,32 @@ module _ (W A : List ℕ) (k : ℕ) (l : Layout) (ms : List Map) (st : Stands W 
             members = records_of member_at member_size W (member_base l) l.members;
           }
 
+      -- the verdict
+      pub accepts : verdict W ≡ finish (length W) (snap_with W A l ms)
+          → all (λ c. not (eqb (own_map A c) 0)) (rows (λ c. c) 0 l.crates) ≡ true
+          → verdict W ≡ accept (snap_of W B l)
+      unfolding finish
+      accepts v owned = v ∙ rw (finish, ← filled_same, filled, ← owned_same, owned) (ap accept (sym snap_same))
+
+      -- there is room for the index
+      pub sized : length W ≤ word_limit → verdict W ≡ accept (snap_of W B l) → Sized W l
+      sized short v =
+          record {
+            short = omega (arith, st.place);
+            few = st.limited.modules;
+            crates = st.limited.crates;
+            owners = λ k h. (scope_read W B l (accepted_valid W (snap_of W B l) v) k h).owner;
+            dependencies = λ k h. (dependency_read W B l (accepted_valid W (snap_of W B l) v) k h).owner;
+            imports = λ k h. (import_read W B l (accepted_valid W (snap_of W B l) v) k h).owner;
+            externs = λ k h. (extern_read W B l (accepted_valid W (snap_of W B l) v) k h).owner;
+          }
+
       pub accepted : length W ≤ word_limit → verdict W ≡ finish (length W) (snap_with W A l ms)
           → all (λ c. not (eqb (own_map A c) 0)) (rows (λ c. c) 0 l.crates) ≡ true
-          → Judged W B (Ok l)
-      unfolding finish
-      accepted short v owned =
+          → Index W l B → Judged W B (Ok l)
+      accepted short v owned index =
           record {
-            same = ap accept snap_same ∙ sym (v ∙ rw (finish, ← filled_same, filled, ← owned_same, owned));
+            same = sym (accepts v owned);
             tables =
                 record {
                   whole = st.place;
@@ -204,12 +226,14 @@ module _ (W A : List ℕ) (k : ℕ) (l : Layout) (ms : List Map) (st : Stands W 
                   rooted = λ j h. (rooted j h).0;
                   inside = λ j h. map_stays (map_root B j) (rooted j h).0 ∙ (rooted j h).1;
                   first = λ m h. rw (map_stays m h) (r.first m h);
-                  own = λ c h. r.crates c ∙ st.own c h ∙ ap (own_of c) (sym maps_same);
+                  own = λ c h. r.crates c (let q = st.limited.crates in omega arith) ∙ st.own c h ∙ ap (own_of c) (sym maps_same);
                   owned = λ c h.
-                      (let e = r.crates c in
+                      (let q = st.limited.crates in
+                      let e = r.crates c (omega arith) in
                       let n : (own_map A c ≡ 0 → ⊥) = eqb-false (own_map A c) 0
                       (not-true (eqb (own_map A c) 0) (all_at (λ c. not (eqb (own_map A c) 0)) l.crates c h owned)) in
                       omega arith);
+                  index = index;
                 };
           }
 

@@ -4,12 +4,12 @@ use mathlib.Core.Path.{◌≡◌, refl, sym, ◌∙◌, ap}
 use mathlib.Core.List.{List}
 use mathlib.Core.Bool.{Bool, true, false}
 use native.Mathlib.Omega.{arith}
-use lib.ListN.{length, get_or, set, length-set}
-use lib.Seq.{get_or-set_same, get_or-set_other}
+use lib.ListN.{length, get_or, set, take, length-set}
+use lib.Seq.{get_or-set_same, get_or-set_other, get_or-take}
 use lib.Dec.{eqb}
 use borrow.Author.Tests.{eqb-true, eqb-false}
 use Rattle.snapshot.specs.Limits.{module_limit, area_limit}
-use Rattle.snapshot.specs.Layouts.{module_map, map_root, own_map, module_table, root_table, crate_table}
+use Rattle.snapshot.specs.Layouts.{module_map, map_root, own_map, module_table, root_table, crate_table, row_words}
 use Rattle.record_rules.specs.Stands.{Rooted}
 
 -- the modules from m on have their maps' first modules from m on in the table
@@ -85,8 +85,24 @@ pub filled_all : (A₀ A : List ℕ) (n m : ℕ) → Filled A₀ A n m → m ≤
 filled_all A₀ A n m f h =
     record {
       names = f.names;
-      crates = f.crates;
+      crates = λ c h. f.crates c;
       below = λ i p. f.below i (omega arith) p;
       inside = λ i p. f.inside i (omega arith) p;
       first = λ i p. f.first i (omega arith) p;
+    }
+
+-- what is written after the rows leaves them
+pub rooted_later : (A B C : List ℕ) (n : ℕ) → n ≤ module_limit → ((m : ℕ) → m < n → module_map A m < module_limit) → Rooted A B n
+    → take row_words C ≡ take row_words B → Rooted A C n
+rooted_later A B C n few small r e =
+    let kept : (i : ℕ) → i < row_words → get_or C i 0 ≡ get_or B i 0 =
+    λ i h. sym (get_or-take row_words C i 0 h) ∙ ap (λ (x : List ℕ). get_or x i 0) e ∙ get_or-take row_words B i 0 h in
+    let same : (m : ℕ) → m < n → map_root C (module_map A m) ≡ map_root B (module_map A m) =
+    λ m h. kept (root_table + module_map A m) (let q = small m h in omega arith) in
+    record {
+      names = λ i h. kept i (omega arith) ∙ r.names i h;
+      crates = λ c h. kept (crate_table + c) (omega arith) ∙ r.crates c h;
+      below = λ m h. rw (same m h) (r.below m h);
+      inside = λ m h. ap (module_map A) (same m h) ∙ r.inside m h;
+      first = λ m h. rw (same m h) (r.first m h);
     }

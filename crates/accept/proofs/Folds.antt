@@ -10,7 +10,7 @@ use Rattle.snapshot.specs.Lists.{rows}
 use Rattle.snapshot.specs.Limits.{word_limit, area_limit}
 use Rattle.snapshot.specs.Words.{kind_of, arguments_at}
 use Rattle.snapshot.specs.Records.{Map, Snapshot}
-use Rattle.snapshot.specs.Layouts.{no_records, snap_with, table_words}
+use Rattle.snapshot.specs.Layouts.{no_records, snap_with, row_words}
 use Rattle.snapshot.specs.declared.layout.Layout.{Layout}
 use Rattle.check_rules.specs.Steps.{no, on}
 use Rattle.check_rules.specs.Verdict.{step_at, refuse, finish, records, verdict}
@@ -48,7 +48,7 @@ pub record Going (W A : List ℕ) (at last : ℕ) (l : Layout) : Type 0 where
   pub enough : length W ≤ fuel + at
   pub same : verdict W ≡ records fuel W at last (snap_with W A l maps)
 
-stands_start : (W A : List ℕ) → ((i : ℕ) → table_words ≤ i → i < marks_end → get_or A i 0 ≡ 0) → Stands W A 0 0 no_records []
+stands_start : (W A : List ℕ) → ((i : ℕ) → row_words ≤ i → i < marks_end → get_or A i 0 ≡ 0) → Stands W A 0 0 no_records []
 unfolding rows
 stands_start W A z =
     record {
@@ -79,11 +79,11 @@ stands_start W A z =
       index = indexes_none W A z;
     }
 
-going_none : (W A : List ℕ) → length W ≤ word_limit → ((i : ℕ) → table_words ≤ i → i < marks_end → get_or A i 0 ≡ 0) → Going W A 0 0 no_records
+going_none : (W A : List ℕ) → length W ≤ word_limit → ((i : ℕ) → row_words ≤ i → i < marks_end → get_or A i 0 ≡ 0) → Going W A 0 0 no_records
 unfolding verdict rows
 going_none W A h z = record { maps = []; stands = stands_start W A z; fuel = length W; enough = omega arith; same = rw (verdict, le-leb _ _ h) }
 
-pub going_start : (W A : List ℕ) {l : Layout} → length W ≤ word_limit → ((i : ℕ) → table_words ≤ i → i < marks_end → get_or A i 0 ≡ 0)
+pub going_start : (W A : List ℕ) {l : Layout} → length W ≤ word_limit → ((i : ℕ) → row_words ≤ i → i < marks_end → get_or A i 0 ≡ 0)
     → l ≡ no_records → Going W A 0 0 l
 going_start W A h z e = subst (λ l. Going W A 0 0 l) (sym e) (going_none W A h z)
 

@@ -17,6 +17,7 @@ use Rattle.snapshot.proofs.Laws.{rows_ext}
 use Rattle.check_rules.specs.Tests.{no_map}
 use Rattle.check_rules.specs.Verdict.{accept}
 use Rattle.record_rules.specs.Stands.{own_of}
+use Rattle.record_index.proofs.Ranging.{index_stays}
 use Rattle.accept.specs.Post.{Tables, Reads, Judged, Checks, check_of, outcome, Readable, Checked}
 use Rattle.std.specs.Prelude.{Ok, Err}
 use Rattle.snapshot.specs.declared.refusal.Refusal.TheVariants.{Area}
@@ -82,6 +83,8 @@ module _ (W A B : List ℕ) (l : Layout) (t : Tables W A l) (kept : Kept A B 0 t
         first = λ m h. rw (map_stays m h, root_stays (module_map A m) (t.below m h)) (t.first m h);
         own = λ c h. own_stays c h ∙ t.own c h ∙ ap (own_of c) (sym maps_stay);
         owned = λ c h. rw (own_stays c h) (t.owned c h);
+        index = index_stays W A B l t.limited.modules t.limited.crates (let q = t.whole in let r = t.short in omega arith)
+            (λ i p q. kept i (omega arith) (omega arith)) t.index;
       }
 
 -- the check in the first part of an area

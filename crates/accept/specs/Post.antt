@@ -9,6 +9,7 @@ use Rattle.snapshot.specs.declared.layout.Layout.{Layout}
 use Rattle.check_rules.specs.Verdict.{Verdict, refuse, accept, verdict}
 use Rattle.check_rules.specs.Tests.{no_map}
 use Rattle.record_rules.specs.Stands.{Limited, own_of}
+use Rattle.record_index.specs.Index.{Index}
 use Rattle.accept.specs.declared.check.Refused.{Refused}
 
 -- what the check answers
@@ -35,6 +36,8 @@ pub record Tables (W A : List ℕ) (l : Layout) : Type 0 where
   -- a crate's own map
   pub own : (c : ℕ) → c < l.crates → own_map A c ≡ own_of c (maps_of W A l.maps)
   pub owned : (c : ℕ) → c < l.crates → 0 < own_map A c
+  -- where a module's scope records stand, and a crate's dependencies, imports and externs
+  pub index : Index W l A
 
 -- words that were accepted, with the layout and the tables that the check left
 pub record Reads (W A : List ℕ) (l : Layout) : Type 0 where

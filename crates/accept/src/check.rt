@@ -7,9 +7,11 @@ ghost use Rattle.accept.specs.Ends.{Ended};
 use crate::finish::{crates_own, fill_roots, maps_filled};
 use crate::turn::turn;
 use chains::chain::{Chains, clear};
+use record_index::index_records;
 use snapshot::ids::WordCount;
 use snapshot::kind::arguments;
 use snapshot::layout::Layout;
+use snapshot::records::Records;
 use snapshot::refusal::Refusal;
 use snapshot::words::kind;
 
@@ -72,6 +74,8 @@ fn check_within(words: &[u32], area: &mut [u32]) -> Result<Layout, Refused>
         });
     }
     fill_roots(area, l.modules);
+    let records = Records { words, layout: l };
+    index_records(&records, area);
     Ok(l)
 }
 

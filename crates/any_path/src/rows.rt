@@ -4,6 +4,7 @@ ghost use Rattle.snapshot.specs.Limits.{module_limit};
 ghost use Rattle.nameable.specs.Breadth.{is_met};
 ghost use Rattle.any_path.specs.Rows.{run_at, Run, Offered};
 
+use snapshot::table::Tables;
 use snapshot::words::word;
 
 /// The module, the link (0 a keyword, 1 `::n`, 2 `n`, 3 and more a name after the path of a row), the name or keyword, and the place of the record.
@@ -19,7 +20,7 @@ pub struct Row {
 
 impl Row {
     // Where the rows start, and the words of one.
-    pub const BASE: usize = 4160;
+    pub const BASE: usize = Tables::END;
 
     pub const SIZE: usize = 4;
 }

@@ -1,5 +1,5 @@
 -- Laws of words that stay checked.
-use Prim.Native.Nat.{ℕ, ◌-◌, ◌^◌, ◌≤◌, ◌<◌}
+use Prim.Native.Nat.{ℕ, ◌+◌, ◌-◌, ◌^◌, ◌≤◌, ◌<◌}
 use mathlib.Core.Path.{◌≡◌, refl, sym, ◌∙◌, ap, subst}
 use mathlib.Core.Bool.{Bool, true, false}
 use mathlib.Core.List.{List, ◌++◌}
@@ -11,6 +11,7 @@ use Rattle.snapshot.specs.Limits.{area_limit}
 use Rattle.snapshot.specs.Refusals.{batch_refusal}
 use Rattle.snapshot.specs.Layouts.{word_count, table_words}
 use Rattle.snapshot.specs.declared.layout.Layout.{Layout}
+use Rattle.record_index.specs.Index.{First}
 use Rattle.accept.specs.Post.{Checked, Tables, Reads, Judged}
 use Rattle.std.specs.Prelude.{Ok}
 use Rattle.checked.specs.Questioned.{Questioned}
@@ -32,6 +33,9 @@ module _ (W A : List ℕ) (l : Layout) (t : Tables W A l) where
   names_words = omega (arith, t.whole)
 
   -- the latest map is the check's alone
+  first_without : (m k : ℕ) {v : ℕ} → First W l m k v → First W (layout_with l.text (counted l)) m k v
+  first_without m k f = record { from = f.from; most = f.most; its = f.its; least = f.least }
+
   tables_without : Tables W A (layout_with l.text (counted l))
   tables_without =
       record {
@@ -53,6 +57,16 @@ module _ (W A : List ℕ) (l : Layout) (t : Tables W A l) where
         first = t.first;
         own = t.own;
         owned = t.owned;
+        index =
+            record {
+              scopes = record {
+                heads = λ m h. first_without m 0 (t.index.scopes.heads m h);
+                links = λ j g h. first_without _ (j + 1) (t.index.scopes.links j g h);
+              };
+              dependencies = t.index.dependencies;
+              imports = t.index.imports;
+              externs = t.index.externs;
+            };
       }
 
 module _ (W A C : List ℕ) (k : StillChecked W A C) where

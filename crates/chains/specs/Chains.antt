@@ -4,12 +4,12 @@ use Rattle.snapshot.specs.Lists.{rows, any}
 use Rattle.snapshot.specs.Limits.{module_limit}
 use Rattle.snapshot.specs.Words.{pay_of}
 use Rattle.snapshot.specs.Records.{Name}
-use Rattle.snapshot.specs.Layouts.{table_words}
+use Rattle.snapshot.specs.Layouts.{row_words}
 
 -- Where they stand in the work area, past the tables: the heads, a word a key, the marks, a word a module, and the links, a word a number.
 
 abbrev pub name_heads : ℕ
-name_heads = table_words
+name_heads = row_words
 
 abbrev pub scope_heads : ℕ
 scope_heads = 4544

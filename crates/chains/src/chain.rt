@@ -12,11 +12,11 @@ impl Chains {
     /// How many keys there are.
     pub const KEYS: usize = 383;
 
-    pub const HEADS: usize = Tables::END;
+    pub const HEADS: usize = Tables::ROWS;
 
     pub const MARKS_END: usize = 6336;
 
-    pub const NAME_HEADS: usize = Tables::END;
+    pub const NAME_HEADS: usize = Tables::ROWS;
 
     pub const SCOPE_HEADS: usize = 4544;
 

@@ -180,7 +180,11 @@ fn find_in_lang(
     if is_stable(o.choice) {
         return o;
     }
-    let Some(h) = lang_of(records, x.from_crate, lang.number()) else {
+    let db = Snapshot {
+        records: *records,
+        area,
+    };
+    let Some(h) = lang_of(&db, x.from_crate, lang.number()) else {
         return o;
     };
     find_in_dep(
@@ -216,7 +220,7 @@ fn find_in_rest(
 }
 
 // The dependencies of one sort, in record order.
-// `while let`: each turn looks for the next one after the last; an iterator would be a type more, with `next_dependency` in it.
+// `loop`: each turn looks for the next one after the last, in the snapshot as it then is.
 #[cycle(charged)]
 fn find_in_deps(
     records: &Records,
@@ -233,23 +237,22 @@ fn find_in_deps(
 {
     let mut best = o;
     let mut k = 0;
-    while let Some(next) = next_dependency(records, k, x.from_crate, which) {
-        best = find_in_dep(
-            records,
+    loop {
+        let db = Snapshot {
+            records: *records,
             area,
-            x,
-            left,
-            item,
-            dependency_crate(records.words, next.head),
-            best,
-        );
+        };
+        let Some(next) = next_dependency(&db, k, x.from_crate, which) else {
+            return best;
+        };
+        let c = dependency_crate(records.words, next.head);
+        best = find_in_dep(records, area, x, left, item, c, best);
         k = next.number + 1;
     }
-    best
 }
 
 // The imports of the item in a crate.
-// `while let`, as in `find_in_deps`, with `import_info_for`.
+// `loop`, as in `find_in_deps`.
 // The loop of `find_in_deps` over other records; its step is a call of the cycle, and a closure for it would have the clause of that call.
 #[cycle(charged)]
 fn find_in_dep(
@@ -267,11 +270,17 @@ fn find_in_dep(
 {
     let mut best = o;
     let mut k = 0;
-    while let Some(next) = import_info_for(records, k, c, item) {
+    loop {
+        let db = Snapshot {
+            records: *records,
+            area,
+        };
+        let Some(next) = import_info_for(&db, k, c, item) else {
+            return best;
+        };
         best = find_import(records, area, x, left, next.head, best);
         k = next.number + 1;
     }
-    best
 }
 
 // One import, unless it is hidden: the best path of its container is offered with its name. An unstable one is searched for,

@@ -10,10 +10,11 @@ ghost use Rattle.hir_def.specs.Nameres.{is_extern, is_dependency, is_lang_sysroo
 ghost use Rattle.hir_def.specs.Entries.{entry_of, NextOf};
 ghost use Rattle.crate_graph.specs.Among.{among};
 
+use accept::opened::Snapshot;
 use hir_def::Place;
-use hir_def::finds::{first_where, next_where};
+use hir_def::finds::{first_where, next_within};
 use hir_def::items::origin_of;
-use hir_def::spans::{dependencies, preludes};
+use hir_def::spans::{dependencies, part_of, preludes};
 use snapshot::ids::{Crate, ModuleId};
 use snapshot::kind::Size;
 use snapshot::record::{
@@ -21,6 +22,7 @@ use snapshot::record::{
     prelude_map,
 };
 use snapshot::records::Records;
+use snapshot::table::Tables;
 
 // Whether the extern with its head at a place is one of the crate's, naming the module.
 fn is_extern(words: &[u32], h: usize, c: Crate, m: ModuleId) -> bool
@@ -31,13 +33,14 @@ fn is_extern(words: &[u32], h: usize, c: Crate, m: ModuleId) -> bool
 
 /// The last of the crate's externs that names the module: they are read backwards.
 // `base + size * k` as in a `Span`: a method for it would be this sum under a name.
-pub fn extern_of(records: &Records, c: Crate, m: ModuleId) -> Option<usize>
-    ensures { (A : List ℕ) → entry_of extern_at records.now.words.now result ≡ extern_of (snap_by records.now A) c.0 m.0 }
+pub fn extern_of(db: &Snapshot, c: Crate, m: ModuleId) -> Option<usize>
+    ensures { (A : List ℕ) → entry_of extern_at db.now.records.words.now result ≡ extern_of (snap_by db.now.records A) c.0 m.0 }
 {
-    let base = records.layout.extern_base();
-    for k in (0..records.layout.externs).rev() {
+    let base = db.records.layout.extern_base();
+    let part = part_of(db, Tables::EXTERNS, c);
+    for k in (part.low..part.high.min(db.records.layout.externs)).rev() {
         let h = base + Size::EXTERN * k;
-        if is_extern(records.words, h, c, m) {
+        if is_extern(db.records.words, h, c, m) {
             return Some(h);
         }
     }
@@ -78,11 +81,12 @@ fn is_among(words: &[u32], h: usize, c: Crate, which: Which) -> bool
 }
 
 /// The next of these dependencies of the crate, from the dependency number k on.
-pub fn next_dependency(records: &Records, k: usize, c: Crate, which: Which) -> Option<Place>
-    ensures { NextOf (among c.0 which) dependency_at dependency_size records.now.words.now (dependency_base records.now.layout) records.now.layout.dependencies k result }
+pub fn next_dependency(db: &Snapshot, k: usize, c: Crate, which: Which) -> Option<Place>
+    ensures { NextOf (among c.0 which) dependency_at dependency_size db.now.records.words.now (dependency_base db.now.records.layout) db.now.records.layout.dependencies k result }
 {
-    let test = |h| is_among(records.words, h, c, which);
-    next_where(dependencies(records), k, test)
+    let test = |h| is_among(db.records.words, h, c, which);
+    let part = part_of(db, Tables::DEPENDENCIES, c);
+    next_within(dependencies(&db.records), k, part.low, part.high, test)
 }
 
 // Whether the dependency with its head at a place is one of the crate's, in the sysroot, of that origin.
@@ -98,9 +102,11 @@ fn is_lang_sysroot(records: &Records, h: usize, c: Crate, lang: usize) -> bool
 
 /// The first of the crate's sysroot dependencies whose origin has that number.
 // `lang` is the number of a `CrateOrigin`, and no enum: a public parameter that takes any number may not take fewer.
-pub fn lang_of(records: &Records, c: Crate, lang: usize) -> Option<usize>
-    ensures { (A : List ℕ) → entry_of dependency_at records.now.words.now result ≡ lang_of (snap_by records.now A) c.0 lang }
+pub fn lang_of(db: &Snapshot, c: Crate, lang: usize) -> Option<usize>
+    ensures { (A : List ℕ) → entry_of dependency_at db.now.records.words.now result ≡ lang_of (snap_by db.now.records A) c.0 lang }
 {
-    let test = |h| is_lang_sysroot(records, h, c, lang);
-    first_where(dependencies(records), test)
+    let test = |h| is_lang_sysroot(&db.records, h, c, lang);
+    let part = part_of(db, Tables::DEPENDENCIES, c);
+    let next = next_within(dependencies(&db.records), 0, part.low, part.high, test)?;
+    Some(next.head)
 }

@@ -18,7 +18,7 @@ use Rattle.accept.proofs.Bools.{each_map}
 use Rattle.find_path.specs.declared.FindPathCtx.{FindPathCtx}
 use Rattle.search_laws.proofs.Tables.{same_snap, same_reads}
 use Rattle.distances.specs.Distances.{distance, Named, Ruled}
-use Rattle.distances.specs.Post.{Ready, Far, Numbered, Lowers}
+use Rattle.distances.specs.Post.{Ready, Far, Lowers}
 
 -- all of a list that is read off
 rows_from : {A : Type 0} {P : A → Type 0} (f : ℕ → A) (k n : ℕ) → ((i : ℕ) → i < n → P (f (k + i))) → Each P (rows f k n)
@@ -35,7 +35,12 @@ rows_each {P = P} f n h = rows_from f 0 n (λ i q. let e : i ≡ 0 + i = omega a
 
 module _ {A B : List ℕ} where
   pub lowers_then : {C : List ℕ} → Lowers A B → Lowers B C → Lowers A C
-  lowers_then f g = record { less = λ i. let p = f.less i in let q = g.less i in omega arith; tables = g.tables ∙ f.tables }
+  lowers_then f g =
+      record {
+        less = λ i. let p = f.less i in let q = g.less i in omega arith;
+        some = λ i h. g.some i (f.some i h);
+        tables = g.tables ∙ f.tables;
+      }
 
   module _ (W : List ℕ) (l : Layout) (f : Lowers A B) where
     pub lowers_snap : Reads W A l → snap_of W B l ≡ snap_of W A l
@@ -45,18 +50,15 @@ module _ {A B : List ℕ} where
     lowers_ready r e = record { reads = same_reads W A B l f.tables r.reads; area = e ∙ r.area }
 
     pub lowers_far : {n : ℕ} → Far n A → Far n B
-    lowers_far h m q = let a = h m q in let b = f.less (table_words + m) in omega arith
-
-    pub lowers_numbered : Numbered W A l → length B ≡ length A → Numbered W B l
-    lowers_numbered r e = record { ready = lowers_ready r.ready e; far = lowers_far r.far }
+    lowers_far h m q = let a = (h m q).1 in let b = f.less (table_words + m) in (f.some (table_words + m) (h m q).0, omega arith)
 
 pub lowers_same : (A : List ℕ) → Lowers A A
-lowers_same A = record { less = λ i. omega arith; tables = refl }
+lowers_same A = record { less = λ i. omega arith; some = λ i h. h; tables = refl }
 
 -- a word is made smaller
-module _ (A : List ℕ) (at v : ℕ) (past : table_words ≤ at) (there : at < length A) (less : v ≤ get_or A at 0) where
+module _ (A : List ℕ) (at v : ℕ) (past : table_words ≤ at) (there : at < length A) (less : v ≤ get_or A at 0) (some : 0 < v) where
   pub set_lowers : Lowers A (set A at v)
-  set_lowers = record { less = each; tables = take-set-le table_words A at v past }
+  set_lowers = record { less = each; some = each_some; tables = take-set-le table_words A at v past }
     where
       each : (i : ℕ) → get_or (set A at v) i 0 ≤ get_or A i 0
       each i =
@@ -64,6 +66,13 @@ module _ (A : List ℕ) (at v : ℕ) (past : table_words ≤ at) (there : at < l
           (λ t. let e = eqb-true i at t in let s = get_or-set_same A at v 0 there in
           subst (λ (z : ℕ). get_or (set A at v) z 0 ≤ get_or A z 0) (sym e) (omega (arith, s, less)))
           (λ t. let s = get_or-set_other A at i v 0 (eqb-false i at t) in omega (arith, s))
+
+      each_some : (i : ℕ) → 0 < get_or A i 0 → 0 < get_or (set A at v) i 0
+      each_some i h =
+          by_test (eqb i at)
+          (λ t. let e = eqb-true i at t in let s = get_or-set_same A at v 0 there in
+          subst (λ (z : ℕ). 0 < get_or (set A at v) z 0) (sym e) (omega (arith, s, some)))
+          (λ t. let s = get_or-set_other A at i v 0 (eqb-false i at t) in omega (arith, s, h))
 
 -- smaller numbers have what larger ones have
 module _ (s : Snapshot) (d d' : ℕ → ℕ) (less : (m : ℕ) → d' m ≤ d m) where

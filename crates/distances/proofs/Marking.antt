@@ -1,40 +1,47 @@
 -- The modules that a rule may answer for are marked.
 use Prim.Native.Nat.{ℕ, zero, suc, ◌+◌, ◌*◌, ◌≤◌, ◌<◌}
-use mathlib.Core.Path.{◌≡◌, refl, ap, sym, ◌∙◌, subst}
-use mathlib.Core.List.{List, [], ◌∷◌}
-use mathlib.Core.Bool.{Bool, true, false, ◌||◌, not, true≢false, false≢true}
+use mathlib.Core.Path.{◌≡◌, refl, ap, ap₂, sym, ◌∙◌, subst}
+use mathlib.Core.List.{List, [], ◌∷◌, ◌++◌}
+use mathlib.Core.Bool.{Bool, true, false, ◌&&◌, ◌||◌, not, true≢false, false≢true}
 use mathlib.Core.Logic.{◌⊎◌, inl, inr, ⊎_elim}
 use Rattle.std.specs.Prelude.{Option, None, Some}
 use native.Mathlib.Omega.{arith}
+use borrow.Rule.Slice.PartMut.{put_mid}
+use Rattle.std.proofs.lemmas.Slice.{take-put_mid_below}
 use lib.Dec.{eqb}
-use lib.ListN.{length, set}
-use lib.Seq.{get_or-set_same, get_or-set_other, take-set-le}
+use lib.ListN.{length, get_or, set, take, drop, replicate, length-replicate, get_or-append, get_or-replicate}
+use lib.Seq.{get_or-set_same, get_or-append-add, length-take-le}
 use borrow.Author.Count.{below_more}
-use borrow.Author.Tests.{eqb-true}
+use borrow.Author.Tests.{eqb-true, eq-eqb}
 use Rattle.snapshot.specs.Sizes.{scope_size}
 use Rattle.snapshot.specs.Limits.{module_limit, area_limit}
 use Rattle.snapshot.specs.Records.{Snapshot, Scope, Prelude, scope_at}
 use Rattle.snapshot.specs.Layouts.{table_words, scope_base, snap_of}
 use Rattle.snapshot.specs.declared.layout.Layout.{Layout}
+use Rattle.record_index.specs.Index.{Follows}
 use Rattle.accept.specs.Post.{Reads}
-use Rattle.record_rules.specs.Stands.{counts_in}
-use Rattle.accept.specs.Valid.{Each, more, ScopeFits}
+use Rattle.accept.specs.Valid.{Each, more}
 use Rattle.accept.proofs.Accepted.{by_test}
-use Rattle.hir_def.specs.Items.{crate_root, item_of, parent_of, crate_of, in_block, block_of, map_no, module_item, defined_item}
+use Rattle.accept.proofs.Bools.{each_map}
+use Rattle.module_tree.proofs.Reading.{crate_there, root_read}
+use Rattle.hir_def.specs.Finds.{select}
+use Rattle.hir_def.specs.Entries.{left_of, Meets, Ends}
+use Rattle.hir_def.specs.ItemScope.{is_module_entry, entry_module, modules_in_scope}
+use Rattle.hir_def.specs.Items.{types, module_kind, definition_of, crate_root, root_of, own_map, item_of, parent_of, crate_of, in_block, block_of, map_no}
+use Rattle.hir_def.specs.Items.{module_item, defined_item}
 use Rattle.hir_def.specs.Nameres.{steps, steps_or, ancestor_maps, prelude_of}
-use Rattle.hir_def.specs.declared.Item.{Item}
 use Rattle.accept.proofs.Trees.{accepted_tree}
+use Rattle.hir_def.proofs.Lookups.{item_module, item_other, modules_whole}
+use Rattle.item_scope.proofs.Along.{met_follows}
 use Rattle.hir_def.proofs.Laws.{Falls, steps_more}
 use Rattle.hir_def.proofs.Chains.{parent_fits, block_falls}
-use Rattle.hir_def.proofs.Fits.{item_known}
 use Rattle.hir_def.proofs.Reading.{length_modules}
-use Rattle.hir_def.specs.Entries.{Known}
 use Rattle.find_path.specs.declared.FindPathCtx.{FindPathCtx}
 use Rattle.find_path.specs.Rules.{module_in, may_be_in_scope, parent_kind, is_kw_kind_relative_to_from, keyword_of}
 use Rattle.search_laws.proofs.Tables.{same_snap, same_reads}
 use Rattle.distances.specs.Distances.{distance, Named, is_keyword}
-use Rattle.distances.specs.Post.{Ready, Rooted, Marked, Lowers}
-use Rattle.distances.proofs.Lowering.{rows_each, lowers_same, lowers_then, lowers_snap, lowers_ready, lowers_far, set_lowers, distances_less}
+use Rattle.distances.specs.Post.{Ready, Cleared, Rooted, Marked, Lowers}
+use Rattle.distances.proofs.Lowering.{lowers_same, lowers_then, lowers_snap, lowers_ready, lowers_far, set_lowers, distances_less}
 use Rattle.distances.proofs.Lowering.{named_less, all_less}
 
 -- a module is marked
@@ -42,88 +49,138 @@ module _ (A : List ℕ) (m : ℕ) (size : length A ≡ area_limit) (known : m < 
   pub mark_set : {w : ℕ} → w ≡ distance A m → (w ≤ 1 → ⊥) → Lowers A (set A (table_words + m) 1) × (distance (set A (table_words + m) 1) m ≤ 1)
   mark_set e h =
       let s = get_or-set_same A (table_words + m) 1 0 (omega arith) in
-      (set_lowers A (table_words + m) 1 (omega arith) (omega arith) (omega arith), omega (arith, s))
+      (set_lowers A (table_words + m) 1 (omega arith) (omega arith) (omega arith) (omega arith), omega (arith, s))
 
--- the first numbers
-pub rooted_start : (W A : List ℕ) (l : Layout) → Rooted W A l 0 A
-rooted_start W A l = record { far = λ m h. absurd (omega arith); roots = λ m h e. absurd (omega arith); tables = refl }
+-- the numbers are cleared
+pub cleared_all : (A ys : List ℕ) (n k j : ℕ) → k ≡ n → j ≡ n → ys ≡ replicate j 16 → table_words + n ≤ length A
+    → Cleared A n (put_mid table_words k A ys)
+cleared_all A ys n k j q p e h =
+    let R = drop k (drop table_words A) in
+    let l : length (take table_words A) ≡ table_words = length-take-le table_words A (omega arith) in
+    record {
+      all = λ m o.
+          ap (λ j. get_or (take table_words A ++ (ys ++ R)) (j + m) 0) (sym l) ∙ get_or-append-add (take table_words A) (ys ++ R) m 0
+          ∙ ap (λ z. get_or (z ++ R) m 0) (e ∙ ap (λ i. replicate i 16) p) ∙ get_or-append (replicate n 16) R 0 m (simp length-replicate o)
+          ∙ get_or-replicate n m 16 0 o;
+      tables = take-put_mid_below table_words k A ys table_words (omega arith) (omega arith);
+    }
 
-module _ (W A₀ : List ℕ) (l : Layout) (r : Reads W A₀ l) (n : ℕ) (A : List ℕ) (i : Rooted W A₀ l n A) (size : length A ≡ area_limit)
-    (few : n < module_limit) where
-  pub rooted_next : {root d : ℕ} → root ≡ crate_root (snap_of W A l) n → (d ≤ 16) × (root ≡ n → d ≤ 1)
-      → Rooted W A₀ l (n + 1) (set A (table_words + n) d)
-  rooted_next {root} {d} e f =
-      let B = set A (table_words + n) d in
-      let here : distance B n ≡ d = get_or-set_same A (table_words + n) d 0 (omega arith) in
-      let other : (m : ℕ) → m < n → distance B m ≡ distance A m = λ m h. get_or-set_other A (table_words + n) (table_words + m) d 0 (λ z. omega arith) in
-      let q : root ≡ crate_root (snap_of W A₀ l) n = e ∙ ap (λ (s : Snapshot). crate_root s n) (same_snap W A₀ A l i.tables r) in
-      record {
-        far = below_more (λ m. distance B m ≤ 16) n (λ m h. let o = other m h in let p = i.far m h in omega arith) (let a = f.0 in omega arith);
-        roots = below_more (λ m. crate_root (snap_of W A₀ l) m ≡ m → distance B m ≤ 1) n
-            (λ m h z. let o = other m h in let p = i.roots m h z in omega arith) (λ z. let p = f.1 (q ∙ z) in omega arith);
-        tables = take-set-le table_words A (table_words + n) d (omega arith) ∙ i.tables;
-      }
-
--- an entry
-module _ (W A : List ℕ) (l : Layout) (c h : ℕ) where
-  abbrev e : Scope
-  e = scope_at W h
-
-  abbrev S : Snapshot
-  S = snap_of W A l
-
-  pub entry_other : {o : ℕ} → o ≡ e.owner → (o ≡ c → ⊥) → Named S (distance A) c e
-  unfolding Named
-  entry_other p n m q r = absurd (n (p ∙ q))
-
-  pub mod_not_def : {m ns d : ℕ} → defined_item ns d ≡ module_item m → ⊥
-  mod_not_def z = let w : ◌≡◌ {A = ℕ} 0 1 = cc in omega arith
-
-  pub mod_same : {m n : ℕ} → module_item m ≡ module_item n → m ≡ n
-  unfolding module_in
-  mod_same z = let w = ap module_in z in omega (arith, w)
-
-  module _ {i : Item} (q : i ≡ item_of S e.ns e.definition) where
-    pub entry_plain : {a b : ℕ} → i ≡ defined_item a b → Named S (distance A) c e
-    unfolding Named
-    entry_plain t m p z = absurd (mod_not_def (sym t ∙ q ∙ z))
-
-    pub entry_below : Reads W A l → ScopeFits (counts_in l) e → {m : ℕ} → i ≡ module_item m → m < l.modules
-    entry_below r f t = subst (Known l) (sym q ∙ t) (item_known W A l r e.ns e.definition f.definition)
-
-    pub entry_marked : (B : List ℕ) {m : ℕ} → i ≡ module_item m → distance B m ≤ 1 → Named S (distance B) c e
-    unfolding Named
-    entry_marked B t h m p z = subst (λ k. distance B k ≤ 1) (mod_same (sym t ∙ q ∙ z)) h
-
--- the entries of a scope
-pub record Marking (W A₀ : List ℕ) (l : Layout) (c : ℕ) (A : List ℕ) (k : ℕ) : Type 0 where
+-- the roots of the first crates are marked
+pub record Rooting (W A₀ : List ℕ) (l : Layout) (A : List ℕ) (c : ℕ) : Type 0 where
   pub lowers : Lowers A₀ A
   pub size : length A ≡ length A₀
-  pub within : k ≤ l.scopes
-  pub named : (i : ℕ) → i < k → Named (snap_of W A₀ l) (distance A) c (scope_at W (scope_base l + scope_size * i))
+  pub within : c ≤ l.crates
+  pub roots : (i : ℕ) → i < c → distance A (root_of (snap_of W A₀ l) (own_map (snap_of W A₀ l) i)) ≤ 1
 
-pub marking_start : (W A : List ℕ) (l : Layout) (c : ℕ) → Marking W A l c A 0
-marking_start W A l c =
-    record { lowers = record { less = λ i. omega arith; tables = refl }; size = refl; within = omega arith; named = λ i h. absurd (omega arith) }
+pub rooting_start : (W A : List ℕ) (l : Layout) → Rooting W A l A 0
+rooting_start W A l = record { lowers = lowers_same A; size = refl; within = omega arith; roots = λ i h. absurd (omega arith) }
 
-module _ (W A₀ : List ℕ) (l : Layout) (r : Reads W A₀ l) (c : ℕ) (A : List ℕ) (k : ℕ) (v : Marking W A₀ l c A k) where
-  pub marking_next : {b h : ℕ} (B : List ℕ) → k < l.scopes → b ≡ scope_base l → h ≡ b + scope_size * k
-      → Lowers A B × Named (snap_of W A l) (distance B) c (scope_at W h) → length B ≡ length A → Marking W A₀ l c B (k + 1)
-  marking_next {b} {h} B few eb eh f z =
-      let p : h ≡ scope_base l + scope_size * k = eh ∙ ap (λ y. y + scope_size * k) eb in
-      let q : Named (snap_of W A₀ l) (distance B) c (scope_at W (scope_base l + scope_size * k)) =
-      subst (λ y. Named (snap_of W A₀ l) (distance B) c (scope_at W y)) p
-      (subst (λ (s : Snapshot). Named s (distance B) c (scope_at W h)) (lowers_snap W l v.lowers r) f.1) in
+module _ (W A₀ : List ℕ) (l : Layout) (r₀ : Reads W A₀ l) (A : List ℕ) (c : ℕ) (v : Rooting W A₀ l A c) where
+  pub rooting_next : {m : ℕ} (B : List ℕ) → c < l.crates → m ≡ root_of (snap_of W A l) (own_map (snap_of W A l) c)
+      → Lowers A B × (distance B m ≤ 1) → length B ≡ length A → Rooting W A₀ l B (c + 1)
+  rooting_next {m} B h e f z =
+      let S₀ = snap_of W A₀ l in
+      let q : m ≡ root_of S₀ (own_map S₀ c) = e ∙ ap (λ (s : Snapshot). root_of s (own_map s c)) (lowers_snap W l v.lowers r₀) in
       record {
         lowers = lowers_then v.lowers f.0;
         size = z ∙ v.size;
         within = omega arith;
-        named = below_more (λ i. Named (snap_of W A₀ l) (distance B) c (scope_at W (scope_base l + scope_size * i))) k
-            (λ i o. named_less (snap_of W A₀ l) (distance A) (distance B) (distances_less f.0) c _ (v.named i o)) q;
+        roots = below_more (λ i. distance B (root_of S₀ (own_map S₀ i)) ≤ 1) c
+            (λ i o. let a = v.roots i o in let b = distances_less f.0 (root_of S₀ (own_map S₀ i)) in omega arith)
+            (subst (λ y. distance B y ≤ 1) q f.1);
       }
 
-  pub marking_done : l.scopes ≤ k → Lowers A₀ A × Each (Named (snap_of W A₀ l) (distance A) c) (snap_of W A₀ l).scopes
-  marking_done h = (v.lowers, rows_each _ l.scopes (λ i q. v.named i (omega arith)))
+  -- the crate's root is a module
+  pub rooting_known : {k r : ℕ} → (k ≡ own_map (snap_of W A l) c) × (k < l.maps) → r ≡ root_of (snap_of W A l) k → r < module_limit
+  rooting_known {k} {r} o e =
+      let x = same_reads W A₀ A l v.lowers.tables r₀ in
+      let q = root_read W A l x.tables k o.1 in
+      let b = x.tables.rooted k o.1 in
+      omega (arith, e, q, b, x.tables.limited.modules)
+
+-- a module that is its crate's root is one of them
+pub root_one : (W A : List ℕ) (l : Layout) → Reads W A l → (d : ℕ → ℕ)
+    → ((c : ℕ) → c < l.crates → d (root_of (snap_of W A l) (own_map (snap_of W A l) c)) ≤ 1)
+    → (m : ℕ) → m < l.modules → crate_root (snap_of W A l) m ≡ m → d m ≤ 1
+unfolding crate_root
+root_one W A l r d h m o e = subst (λ y. d y ≤ 1) e (h (crate_of (snap_of W A l) m) (crate_there W A l r m o))
+
+-- an entry for a module
+module _ (s : Snapshot) where
+  mod_not_def : {m ns d : ℕ} → defined_item ns d ≡ module_item m → ⊥
+  mod_not_def z = let w : ◌≡◌ {A = ℕ} 0 1 = cc in omega arith
+
+  mod_same : {m n : ℕ} → module_item m ≡ module_item n → m ≡ n
+  unfolding module_in
+  mod_same z = let w = ap module_in z in omega (arith, w)
+
+  pub module_entry : (e : Scope) (c m : ℕ) → e.owner ≡ c → item_of s e.ns e.definition ≡ module_item m
+      → (is_module_entry s c e ≡ true) × (entry_module s e ≡ m)
+  module_entry e c m o q =
+      by_test (eqb e.ns types && eqb (definition_of s e.definition).kind module_kind)
+      (λ t. (ap₂ ◌&&◌ (eq-eqb _ _ o) t, mod_same (item_module s e.ns e.definition refl t refl ∙ q)))
+      (λ t. absurd (mod_not_def (item_other s e.ns e.definition refl t ∙ q)))
+
+-- what the entries for modules have, all have
+each_if : {A : Type 0} {Q : A → Type 0} (p : A → Bool) (xs : List A) → Each Q (select p xs) → Each (λ x. p x ≡ true → Q x) xs
+unfolding select
+each_if p [] h = Each.none
+each_if {Q = Q} p (x ∷ xs) h = by (p x) refl (λ g. each_if p xs g) h
+  where
+    by : (b : Bool) → p x ≡ b → (Each Q (select p xs) → Each (λ x. p x ≡ true → Q x) xs)
+        → Each Q (elim b [ true ↦ x ∷ select p xs | false ↦ select p xs ]) → Each (λ x. p x ≡ true → Q x) (x ∷ xs)
+    by true e rec (more q g) = more (λ _. q) (rec g)
+    by false e rec g = more (λ t. absurd (true≢false (sym t ∙ e))) (rec g)
+
+-- the entries of a module, one after the other: what is shown of the rest, with lower numbers, gives it for all
+pub record Along (W A₀ : List ℕ) (l : Layout) (c : ℕ) (Q : List ℕ → Scope → Type 0) (A : List ℕ) (k : ℕ) : Type 0 where
+  pub lowers : Lowers A₀ A
+  pub size : length A ≡ length A₀
+  pub within : k ≤ l.scopes
+  pub follows : Follows W l c k
+  pub rest : (B : List ℕ) → Lowers A B → Each (Q B) (left_of (is_module_entry (snap_of W A₀ l) c) (λ i. scope_at W (scope_base l + scope_size * i)) l.scopes k)
+      → Each (Q B) (left_of (is_module_entry (snap_of W A₀ l) c) (λ i. scope_at W (scope_base l + scope_size * i)) l.scopes 0)
+
+module _ (W A₀ : List ℕ) (l : Layout) (c : ℕ) (Q : List ℕ → Scope → Type 0)
+    (down : (A B : List ℕ) → Lowers A B → (e : Scope) → Q A e → Q B e)
+  where
+    pub along_start : Along W A₀ l c Q A₀ 0
+    along_start =
+        record { lowers = lowers_same A₀; size = refl; within = omega arith; follows = λ h. absurd (omega arith); rest = λ B f g. g }
+
+    module _ {A : List ℕ} {k : ℕ} (v : Along W A₀ l c Q A k) where
+      pub along_next : {j h : ℕ} (B : List ℕ) → Meets (is_module_entry (snap_of W A₀ l) c) scope_at scope_size W (scope_base l) l.scopes k j h
+          → Lowers A B → Q B (scope_at W h) → length B ≡ length A → Along W A₀ l c Q B (j + 1)
+      along_next {j} {h} B x f q z =
+          record {
+            lowers = lowers_then v.lowers f;
+            size = z ∙ v.size;
+            within = omega (arith, x.below);
+            follows = λ _. met_follows W A₀ l c x (omega arith);
+            rest = λ C g t. v.rest C (lowers_then f g) (subst (Each (Q C)) (sym x.next) (more (down B C g (scope_at W h) q) t));
+          }
+
+      pub along_done : Ends (is_module_entry (snap_of W A₀ l) c) scope_at scope_size W (scope_base l) l.scopes k
+          → Each (λ e. is_module_entry (snap_of W A₀ l) c e ≡ true → Q A e) (snap_of W A₀ l).scopes
+      unfolding modules_in_scope
+      along_done x =
+          each_if (is_module_entry (snap_of W A₀ l) c) (snap_of W A₀ l).scopes
+          (subst (Each (Q A)) (sym (modules_whole W A₀ l c)) (v.rest A (lowers_same A) (subst (Each (Q A)) (sym x.none) Each.none)))
+
+-- the entries of a scope are marked
+unfoldable pub marks : List ℕ → List ℕ → Layout → List ℕ → Scope → Type 0
+marks W A₀ l A e = distance A (entry_module (snap_of W A₀ l) e) ≤ 1
+
+pub marks_down : (W A₀ : List ℕ) (l : Layout) (A B : List ℕ) → Lowers A B → (e : Scope) → marks W A₀ l A e → marks W A₀ l B e
+unfolding marks
+marks_down W A₀ l A B f e q = let a = distances_less f (entry_module (snap_of W A₀ l) e) in omega arith
+
+pub marked_named : (W A₀ : List ℕ) (l : Layout) (c : ℕ) (A : List ℕ)
+    → Each (λ e. is_module_entry (snap_of W A₀ l) c e ≡ true → marks W A₀ l A e) (snap_of W A₀ l).scopes
+    → Each (Named (snap_of W A₀ l) (distance A) c) (snap_of W A₀ l).scopes
+unfolding marks Named
+marked_named W A₀ l c A h =
+    each_map (λ e q m o i. let x = module_entry (snap_of W A₀ l) e c m o i in subst (λ y. distance A y ≤ 1) x.1 (q x.0)) h
 
 -- a module with a keyword is the viewer's or its parent
 module _ (s : Snapshot) (x : FindPathCtx) where
@@ -251,13 +308,27 @@ module _ (W A : List ℕ) (l : Layout) (from : ℕ) where
       subst (AllNamed W A l B) (u ∙ ap (λ (y : Prelude). y.target) same) h
 
 -- the rules, one after the other
-module _ (W A₀ : List ℕ) (l : Layout) (x : FindPathCtx) (y : Ready W A₀ l) (A₁ : List ℕ) (f₁ : Rooted W A₀ l l.modules A₁)
-    (z₁ : length A₁ ≡ length A₀) where
+module _ (W A₀ : List ℕ) (l : Layout) (x : FindPathCtx) (y : Ready W A₀ l) (A : List ℕ) (f : Cleared A₀ l.modules A) (z : length A ≡ length A₀) where
+  pub ready_cleared : Ready W A l
+  ready_cleared = record { reads = same_reads W A₀ A l f.tables y.reads; area = z ∙ y.area }
+
+module _ (W A₀ : List ℕ) (l : Layout) (x : FindPathCtx) (y : Ready W A₀ l) (A₁' : List ℕ) (f₁' : Cleared A₀ l.modules A₁') (z₁' : length A₁' ≡ length A₀)
+    (A₁ : List ℕ) (f₁ : Lowers A₁' A₁ × Rooted (snap_of W A₁' l) l A₁) (z₁ : length A₁ ≡ length A₁') where
   abbrev T : List ℕ → Snapshot
   T A = snap_of W A l
 
   pub ready_roots : Ready W A₁ l
-  ready_roots = record { reads = same_reads W A₀ A₁ l f₁.tables y.reads; area = z₁ ∙ y.area }
+  ready_roots = lowers_ready W l f₁.0 (ready_cleared W A₀ l x y A₁' f₁' z₁') z₁
+
+  tables₁ : take table_words A₁ ≡ take table_words A₀
+  tables₁ = f₁.0.tables ∙ f₁'.tables
+
+  far₁ : (m : ℕ) → m < l.modules → (0 < distance A₁ m) × (distance A₁ m ≤ 16)
+  far₁ = lowers_far W l f₁.0 (λ m h. let a = f₁'.all m h in (omega arith, omega arith))
+
+  roots₁ : (m : ℕ) → m < l.modules → crate_root (T A₀) m ≡ m → distance A₁ m ≤ 1
+  roots₁ = root_one W A₀ l y.reads (distance A₁)
+      (λ c h. subst (λ (s : Snapshot). distance A₁ (root_of s (own_map s c)) ≤ 1) (same_snap W A₀ A₁' l f₁'.tables y.reads) (f₁.1 c h))
 
   module _ (A₂ : List ℕ) (f₂ : Lowers A₁ A₂ × ((m : ℕ) → is_keyword (T A₁) x m ≡ true → distance A₂ m ≤ 1)) (z₂ : length A₂ ≡ length A₁) where
     pub ready_keywords : Ready W A₂ l
@@ -271,7 +342,7 @@ module _ (W A₀ : List ℕ) (l : Layout) (x : FindPathCtx) (y : Ready W A₀ l)
       ready_prelude = lowers_ready W l f₃.0 ready_keywords z₃
 
       same₁ : T A₁ ≡ T A₀
-      same₁ = same_snap W A₀ A₁ l f₁.tables y.reads
+      same₁ = same_snap W A₀ A₁ l tables₁ y.reads
 
       same₂ : T A₂ ≡ T A₀
       same₂ = lowers_snap W l f₂.0 ready_roots.reads ∙ same₁
@@ -286,10 +357,10 @@ module _ (W A₀ : List ℕ) (l : Layout) (x : FindPathCtx) (y : Ready W A₀ l)
           let h₃ = lowers_then f₃.0 g in
           let h₂ = lowers_then f₂.0 h₃ in
           record {
-            far = lowers_far W l h₂ f₁.far;
+            far = lowers_far W l h₂ far₁;
             rules =
                 record {
-                  roots = λ m b e. let p = f₁.roots m b e in let q = distances_less h₂ m in omega arith;
+                  roots = λ m b e. let p = roots₁ m b e in let q = distances_less h₂ m in omega arith;
                   keywords = λ m e. let p = f₂.1 m (subst (λ (s : Snapshot). is_keyword s x m ≡ true) (sym same₁) e) in let q =
                       distances_less h₃ m in omega arith;
                   scope = scope;
@@ -298,7 +369,7 @@ module _ (W A₀ : List ℕ) (l : Layout) (x : FindPathCtx) (y : Ready W A₀ l)
                       (subst (λ (s : Snapshot). prelude_of s (map_no s x.from.0) ≡ Some p
                       → Each (Named s (distance A₃) p.target) s.scopes) same₂ (f₃.1 p) e);
                 };
-            tables = h₂.tables ∙ f₁.tables;
+            tables = h₂.tables ∙ tables₁;
           }
 
       pub marked_none : {b : Bool} → b ≡ may_be_in_scope (T A₀) x → b ≡ false → Marked W A₀ l x A₃

@@ -1,230 +1,269 @@
--- Passes over the entries, until one changes nothing.
+-- The steps of all entries, by rounds: the modules with the number 1 first, then those with 2, and so on.
 use Prim.Native.Nat.{ℕ, zero, suc, ◌+◌, ◌*◌, ◌≤◌, ◌<◌}
 use mathlib.Core.Path.{◌≡◌, refl, ap, sym, ◌∙◌, subst}
 use mathlib.Core.List.{List}
-use mathlib.Core.Bool.{Bool, true, false, ◌||◌, true≢false, false≢true}
-use mathlib.Core.Logic.{◌⊎◌, inl, inr, ⊎_elim}
+use mathlib.Core.Bool.{Bool, true, false, ◌&&◌, ◌||◌, true≢false}
 use native.Mathlib.Omega.{arith}
+use lib.Dec.{eqb, ltb}
 use lib.ListN.{length, set}
-use native.Mathlib.Decide.{dec_le}
-use lib.Seq.{get_or-set_same}
+use lib.Seq.{get_or-set_same, get_or-set_other}
 use borrow.Author.Count.{below_more}
+use borrow.Author.Tests.{eqb-true, eqb-false, ltb-true, ltb-false, lt-ltb}
 use Rattle.snapshot.specs.Sizes.{scope_size}
 use Rattle.snapshot.specs.Limits.{module_limit, area_limit}
 use Rattle.snapshot.specs.Records.{Snapshot, Scope, scope_at}
 use Rattle.snapshot.specs.Layouts.{table_words, scope_base, snap_of}
 use Rattle.snapshot.specs.declared.layout.Layout.{Layout}
-use Rattle.accept.specs.Post.{Reads}
 use Rattle.record_rules.specs.Stands.{counts_in}
+use Rattle.accept.specs.Post.{Reads}
 use Rattle.accept.specs.Valid.{Each, ScopeFits}
+use Rattle.accept.proofs.Accepted.{by_test}
+use Rattle.accept.proofs.Bools.{each_map, each_rows}
 use Rattle.accept.proofs.Valid.{accepted_valid}
-use Rattle.accept.proofs.Bools.{each_map}
-use Rattle.accept.proofs.Reading.{ranges_read}
+use Rattle.accept.proofs.Reading.{scope_read}
 use Rattle.hir_def.specs.Entries.{Known}
-use Rattle.hir_def.specs.Items.{item_of, module_item, defined_item}
-use Rattle.hir_def.specs.declared.Item.{Item}
+use Rattle.hir_def.specs.Items.{item_of, module_item}
+use Rattle.hir_def.specs.ItemScope.{is_module_entry, entry_module}
 use Rattle.hir_def.proofs.Fits.{item_known}
 use Rattle.find_path.specs.declared.FindPathCtx.{FindPathCtx}
 use Rattle.find_path.specs.Local.{is_importable}
 use Rattle.search_laws.proofs.Tables.{same_snap, same_reads}
-use Rattle.search_laws.proofs.Fewer.{either, or_both}
-use Rattle.distances.specs.Distances.{distance, Bounds, Stepped, Ruled, Closed}
-use Rattle.distances.specs.Post.{Ready, Far, Numbered, Marked, Lowers, Smaller, Passed, Bounded}
+use Rattle.distances.specs.Distances.{distance, Stepped, Nearer, Opened, Ruled, Closed, Bounds}
+use Rattle.distances.specs.Post.{Ready, Far, Marked, Lowers, Steps, Turned, Round, Bounded}
+use Rattle.distances.proofs.Lowering.{rows_each, lowers_same, lowers_then, lowers_snap, lowers_ready, set_lowers, distances_less, ruled_less}
+use Rattle.distances.proofs.Marking.{module_entry}
 use Rattle.distances.proofs.Near.{closed_bounds}
-use Rattle.distances.proofs.Lowering.{rows_each, lowers_same, lowers_then, set_lowers, distances_less, ruled_less}
-use Rattle.distances.proofs.Marking.{mod_not_def, mod_same}
+
+or_both : (a b : Bool) → (a || b) ≡ false → (a ≡ false) × (b ≡ false)
+or_both true b e = absurd (true≢false e)
+or_both false b e = (refl, e)
+
+-- a number stays, or not
+pub by_same : {C : Type 0} (a b : ℕ) → (a ≡ b → C) → ((a ≡ b → ⊥) → C) → C
+by_same a b f g = by_test (eqb a b) (λ t. f (eqb-true a b t)) (λ t. g (eqb-false a b t))
 
 -- nothing is changed
-pub passed_none : (A : List ℕ) (P : (ℕ → ℕ) → Type 0) → P (distance A) → Passed A P A false
-passed_none A P h = record { lowers = lowers_same A; changed = λ e. absurd (false≢true e); same = λ e. refl; holds = λ e. h }
+pub steps_none : (A : List ℕ) (d : ℕ) → Steps A d A false
+steps_none A d = record { lowers = lowers_same A; changed = λ m n. absurd (n refl); same = λ e. refl }
 
--- the entry with its head at h as the code reads it: w is the number of its module, i its item
-pub record Step (W A : List ℕ) (l : Layout) (h w : ℕ) (i : Item) : Type 0 where
-  pub number : w ≡ distance A (scope_at W h).owner
-  pub item : i ≡ item_of (snap_of W A l) (scope_at W h).ns (scope_at W h).definition
-
-pub step_read : (W A : List ℕ) (l : Layout) (h : ℕ) {w o : ℕ} {i : Item} → o ≡ (scope_at W h).owner → w ≡ distance A o
-    → i ≡ item_of (snap_of W A l) (scope_at W h).ns (scope_at W h).definition → Step W A l h w i
-step_read W A l h eo ew q = record { number = ew ∙ ap (distance A) eo; item = q }
-
-pub step_far : (W A : List ℕ) (l : Layout) (x : FindPathCtx) (h : ℕ) {w o : ℕ} → o ≡ (scope_at W h).owner → w ≡ distance A o → Reads W A l
-    → Far l.modules A → ScopeFits (counts_in l) (scope_at W h) → 16 ≤ w + 1
-    → Passed A (λ d. Stepped (snap_of W A l) x d (scope_at W h)) A false
-unfolding Stepped
-step_far W A l x h eo ew r far f q =
-    passed_none A (λ d. Stepped (snap_of W A l) x d (scope_at W h))
-    (λ m p i.
-    let b : m < l.modules = subst (Known l) p (item_known W A l r (scope_at W h).ns (scope_at W h).definition f.definition) in
-    let a = far m b in let z = ew ∙ ap (distance A) eo in omega arith)
-
-module _ {W A : List ℕ} {l : Layout} (x : FindPathCtx) {h w : ℕ} {i : Item} (v : Step W A l h w i) where
-  abbrev e : Scope
-  e = scope_at W h
-
-  abbrev S : Snapshot
-  S = snap_of W A l
-
-  abbrev Now : (ℕ → ℕ) → Type 0
-  Now d = Stepped S x d e
-
-  pub step_below : Reads W A l → ScopeFits (counts_in l) e → {m : ℕ} → i ≡ module_item m → m < module_limit
-  step_below r f t =
-      let b = subst (Known l) (sym v.item ∙ t) (item_known W A l r e.ns e.definition f.definition) in
-      omega (arith, b, r.tables.limited.modules)
-
-  pub step_plain : {a b : ℕ} → i ≡ defined_item a b → Passed A Now A false
-  unfolding Stepped
-  step_plain t = passed_none A Now (λ m p j. absurd (mod_not_def W A l 0 h (sym t ∙ v.item ∙ p)))
-
-  module _ {m : ℕ} (t : i ≡ module_item m) where
-    pub step_low : {u : ℕ} → u ≡ distance A m → u ≤ w + 1 → Passed A Now A false
-    unfolding Stepped
-    step_low eu k = passed_none A Now (λ n p j. let z = v.number in subst (λ y. distance A y ≤ distance A e.owner + 1)
-        (mod_same W A l 0 h (sym t ∙ v.item ∙ p)) (omega arith))
-
-    pub step_hidden : {b : Bool} → b ≡ is_importable S x e → b ≡ false → Passed A Now A false
-    unfolding Stepped
-    step_hidden eb z = passed_none A Now (λ n p j. absurd (true≢false (sym j ∙ sym eb ∙ z)))
-
-    pub step_set : {u : ℕ} → length A ≡ area_limit → m < module_limit → u ≡ distance A m → (u ≤ w + 1 → ⊥)
-        → Passed A Now (set A (table_words + m) (w + 1)) true
-    step_set size known eu k =
-        let s = get_or-set_same A (table_words + m) (w + 1) 0 (omega arith) in
-        record {
-          lowers = set_lowers A (table_words + m) (w + 1) (omega arith) (omega arith) (omega arith);
-          changed = λ _. record { which = m; known = known; smaller = omega (arith, s, eu, k) };
-          same = λ z. absurd (true≢false z);
-          holds = λ z. absurd (true≢false z);
-        }
-
--- a pass, up to an entry
-pub record Relaxing (W A₀ : List ℕ) (l : Layout) (x : FindPathCtx) (A : List ℕ) (ch : Bool) (k : ℕ) : Type 0 where
-  pub lowers : Lowers A₀ A
-  pub size : length A ≡ length A₀
-  pub within : k ≤ l.scopes
-  pub changed : ch ≡ true → Smaller A₀ A
-  pub same : ch ≡ false → A ≡ A₀
-  pub holds : ch ≡ false → (i : ℕ) → i < k → Stepped (snap_of W A₀ l) x (distance A₀) (scope_at W (scope_base l + scope_size * i))
-
-pub relaxing_start : (W A : List ℕ) (l : Layout) (x : FindPathCtx) → Relaxing W A l x A false 0
-relaxing_start W A l x =
+pub steps_then : {A B C : List ℕ} {d : ℕ} {r t : Bool} → Steps A d B r → Steps B d C t → Steps A d C (r || t)
+steps_then {A} {B} {C} {d} {r} {t} f g =
     record {
-      lowers = lowers_same A;
-      size = refl;
-      within = omega arith;
-      changed = λ e. absurd (false≢true e);
-      same = λ e. refl;
-      holds = λ e i h. absurd (omega arith);
+      lowers = lowers_then f.lowers g.lowers;
+      changed = λ m n.
+          by_same (distance C m) (distance B m)
+          (λ e. let q = f.changed m (λ z. n (e ∙ z)) in (omega (arith, e, q.0), q.1))
+          (λ z. let q = g.changed m z in let b = distances_less f.lowers m in (q.0, omega (arith, q.1, b)));
+      same = λ e. let (a, o) = or_both r t e in g.same o ∙ f.same a;
     }
 
-module _ (W A₀ : List ℕ) (l : Layout) (x : FindPathCtx) (r : Reads W A₀ l) (A : List ℕ) (ch : Bool) (k : ℕ) (v : Relaxing W A₀ l x A ch k) where
-  pub relaxing_next : {b h : ℕ} {t : Bool} (B : List ℕ) → k < l.scopes → b ≡ scope_base l → h ≡ b + scope_size * k
-      → Passed A (λ d. Stepped (snap_of W A l) x d (scope_at W h)) B t → length B ≡ length A → Relaxing W A₀ l x B (ch || t) (k + 1)
-  relaxing_next {b} {h} {t} B few eb eh f z =
-      let p : h ≡ scope_base l + scope_size * k = eh ∙ ap (λ y. y + scope_size * k) eb in
-      let here : ch ≡ false → t ≡ false → Stepped (snap_of W A₀ l) x (distance A₀) (scope_at W (scope_base l + scope_size * k)) =
-      λ a o. subst (λ y. Stepped (snap_of W A₀ l) x (distance A₀) (scope_at W y)) p
-      (subst (λ (Y : List ℕ). Stepped (snap_of W Y l) x (distance Y) (scope_at W h)) (v.same a) (f.holds o)) in
+-- one number becomes d
+module _ (A : List ℕ) (m d : ℕ) (size : length A ≡ area_limit) (known : m < module_limit) (some : 0 < d) (more : d < distance A m) where
+  abbrev pub B : List ℕ
+  B = set A (table_words + m) d
+
+  pub set_here : distance B m ≡ d
+  set_here = get_or-set_same A (table_words + m) d 0 (omega arith)
+
+  pub steps_set : Steps A d B true
+  steps_set =
       record {
-        lowers = lowers_then v.lowers f.lowers;
-        size = z ∙ v.size;
-        within = omega arith;
-        changed = λ e. ⊎_elim
-            (λ a. let s = v.changed a in let q = f.lowers.less (table_words + s.which) in
-            record { which = s.which; known = s.known; smaller = omega (arith, s.smaller, q) })
-            (λ a. let s = f.changed a in let q = v.lowers.less (table_words + s.which) in
-            record { which = s.which; known = s.known; smaller = omega (arith, s.smaller, q) })
-            (either ch t e);
-        same = λ e. let (a, o) = or_both ch t e in f.same o ∙ v.same a;
-        holds = λ e. let (a, o) = or_both ch t e in
-            below_more (λ i. Stepped (snap_of W A₀ l) x (distance A₀) (scope_at W (scope_base l + scope_size * i))) k (v.holds a) (here a o);
+        lowers = set_lowers A (table_words + m) d (omega arith) (omega arith) (omega arith) some;
+        changed = λ i n.
+            by_same i m
+            (λ e. subst (λ y. (distance B y ≡ d) × (d < distance A y)) (sym e) (set_here, more))
+            (λ z. absurd (n (get_or-set_other A (table_words + m) (table_words + i) d 0 (λ q. z (omega arith)))));
+        same = λ e. absurd (true≢false e);
       }
 
-  pub relaxing_done : l.scopes ≤ k → Passed A₀ (λ d. Each (Stepped (snap_of W A₀ l) x d) (snap_of W A₀ l).scopes) A ch
-  relaxing_done h =
-      record { lowers = v.lowers; changed = v.changed; same = v.same; holds = λ e. rows_each _ l.scopes (λ i q. v.holds e i (omega arith)) }
+-- the entry with its head at h
+module _ (s : Snapshot) (x : FindPathCtx) (A : List ℕ) (d : ℕ) (e : Scope) {m : ℕ} (q : m ≡ entry_module s e) where
+  pub nearer_low : {u : ℕ} → u ≡ distance A m → u ≤ d → Nearer s x (distance A) d e
+  unfolding Nearer
+  nearer_low p h i = subst (λ y. distance A y ≤ d) q (omega (arith, p, h))
 
--- the sum of the numbers
-unfoldable pub total : (ℕ → ℕ) → ℕ → ℕ
-total d zero = 0
-total d (suc n) = d n + total d n
+  pub nearer_hidden : {b : Bool} → b ≡ is_importable s x e → b ≡ false → Nearer s x (distance A) d e
+  unfolding Nearer
+  nearer_hidden p z i = absurd (true≢false (sym i ∙ sym p ∙ z))
 
-module _ (d d' : ℕ → ℕ) (less : (m : ℕ) → d' m ≤ d m) where
-  total_less : (n : ℕ) → total d' n ≤ total d n
-  unfolding total
-  total_less zero = omega arith
-  total_less (suc n) = let a = less n in let b = total_less n in omega arith
+  pub nearer_here : length A ≡ area_limit → m < module_limit → 0 < d → d < distance A m → Nearer s x (distance (set A (table_words + m) d)) d e
+  unfolding Nearer
+  nearer_here size known some more i =
+      subst (λ y. distance (set A (table_words + m) d) y ≤ d) q (omega (arith, set_here A m d size known some more))
 
-  total_falls : (n m : ℕ) → m < n → d' m < d m → total d' n < total d n
-  unfolding total
-  total_falls zero m h q = absurd (omega arith)
-  total_falls (suc n) m h q =
-      ⊎_elim (λ e. let b = total_less n in let a : d' n < d n = subst (λ (y : ℕ). d' y < d y) e q in omega arith)
-      (λ e. let b = total_falls n m e q in let a = less n in omega arith) (last_or n m h)
-    where
-      last_or : (n m : ℕ) → m < suc n → (m ≡ n) ⊎ (m < n)
-      last_or n m h = elim (dec_le n m) [ yes q ↦ inl (omega arith) | no q ↦ inr (omega arith) ]
+-- of lower numbers
+pub nearer_down : (s : Snapshot) (x : FindPathCtx) (d : ℕ) (A B : List ℕ) → Lowers A B → (e : Scope) → Nearer s x (distance A) d e → Nearer s x (distance B) d e
+unfolding Nearer
+nearer_down s x d A B f e q i = let a = q i in let b = distances_less f (entry_module s e) in omega arith
 
-abbrev pub weight : List ℕ → ℕ
-weight A = total (distance A) module_limit
+pub opened_down : (s : Snapshot) (x : FindPathCtx) (m d : ℕ) (A B : List ℕ) → Lowers A B
+    → Each (Opened s x (distance A) m d) s.scopes → Each (Opened s x (distance B) m d) s.scopes
+unfolding Opened
+opened_down s x m d A B f h = each_map (λ e q t. nearer_down s x d A B f e (q t)) h
 
-pub weight_falls : (A B : List ℕ) → Lowers A B → Smaller A B → weight B < weight A
-weight_falls A B f s = total_falls (distance A) (distance B) (distances_less f) module_limit s.which s.known s.smaller
+pub opened_all : (s : Snapshot) (x : FindPathCtx) (m d : ℕ) (A : List ℕ)
+    → Each (λ e. is_module_entry s m e ≡ true → Nearer s x (distance A) d e) s.scopes → Each (Opened s x (distance A) m d) s.scopes
+unfolding Opened
+opened_all s x m d A h = h
 
--- between two passes
-pub record Settling (W A₀ : List ℕ) (l : Layout) (x : FindPathCtx) (A : List ℕ) : Type 0 where
+-- a number that is not between d and 16
+pub far_left : (d w : ℕ) → (ltb d w && ltb w 16) ≡ false → d < w → 16 ≤ w
+far_left d w e h = ltb-false w 16 (ap (λ b. b && ltb w 16) (sym (lt-ltb d w h)) ∙ e)
+
+-- a turn
+module _ (s : Snapshot) (x : FindPathCtx) (A : List ℕ) (m d : ℕ) {w : ℕ} (p : w ≡ distance A m) where
+  pub turned_here : {B : List ℕ} {r : Bool} → w ≡ d → Steps A (d + 1) B r → Each (Opened s x (distance B) m (d + 1)) s.scopes → Turned s x A m d B r
+  turned_here e f h = record { steps = f; opened = λ _. h; done = λ _ q. absurd (omega (arith, e, p, q)) }
+
+  pub turned_past : {r : Bool} → (w ≡ d → ⊥) → (r ≡ false → d < w → 16 ≤ w) → Turned s x A m d A r
+  turned_past {r} n f =
+      record {
+        steps = record { lowers = lowers_same A; changed = λ i z. absurd (z refl); same = λ _. refl };
+        opened = λ e. absurd (n (p ∙ e));
+        done = λ e q. let a = f e (omega (arith, p, q)) in omega (arith, p, a);
+      }
+
+-- a round, up to a module
+module _ (W A₀ : List ℕ) (l : Layout) (x : FindPathCtx) (d : ℕ) where
+  abbrev S : Snapshot
+  S = snap_of W A₀ l
+
+  pub round_start : Round S x A₀ 0 d A₀ false
+  round_start = record { steps = steps_none A₀ (d + 1); opened = λ m h. absurd (omega arith); done = λ e m h. absurd (omega arith) }
+
+  module _ (r₀ : Reads W A₀ l) {A : List ℕ} {m : ℕ} {more : Bool} (v : Round S x A₀ m d A more) where
+    at_start : distance A₀ m ≡ d → distance A m ≡ d
+    at_start e = by_same (distance A m) (distance A₀ m) (λ q. q ∙ e) (λ n. let q = v.steps.changed m n in absurd (omega (arith, q.1, e)))
+
+    pub round_next : {B : List ℕ} {r : Bool} → Turned (snap_of W A l) x A m d B r → Round S x A₀ (m + 1) d B (more || r)
+    round_next {B} {r} f =
+        let sn : snap_of W A l ≡ S = lowers_snap W l v.steps.lowers r₀ in
+        record {
+          steps = steps_then v.steps f.steps;
+          opened = below_more (λ i. distance A₀ i ≡ d → Each (Opened S x (distance B) i (d + 1)) S.scopes) m
+              (λ i h e. opened_down S x i (d + 1) A B f.steps.lowers (v.opened i h e))
+              (λ e. subst (λ (z : Snapshot). Each (Opened z x (distance B) m (d + 1)) z.scopes) sn (f.opened (at_start e)));
+          done = λ e. let (a, o) = or_both more r e in
+              below_more (λ i. d < distance A₀ i → 16 ≤ distance A₀ i) m (v.done a)
+              (λ q. let z : distance A m ≡ distance A₀ m = ap (λ (Y : List ℕ). distance Y m) (v.steps.same a) in
+              let g = f.done o (omega (arith, z, q)) in omega (arith, z, g));
+        }
+
+-- the record k
+abbrev pub entry_at : List ℕ → Layout → ℕ → Scope
+entry_at W l k = scope_at W (scope_base l + scope_size * k)
+
+-- between two rounds: all steps from modules with a smaller number than d are made
+pub record Settling (W A₀ : List ℕ) (l : Layout) (x : FindPathCtx) (A : List ℕ) (d : ℕ) : Type 0 where
   pub marked : Marked W A₀ l x A
   pub size : length A ≡ length A₀
+  pub closed : (k : ℕ) → k < l.scopes → distance A (entry_at W l k).owner < d → Stepped (snap_of W A₀ l) x (distance A) (entry_at W l k)
 
-module _ (W A₀ : List ℕ) (l : Layout) (x : FindPathCtx) (y : Ready W A₀ l) (A : List ℕ) (v : Settling W A₀ l x A) where
-  pub settling_reads : Numbered W A l
-  settling_reads =
-      record {
-        ready = record { reads = same_reads W A₀ A l v.marked.tables y.reads; area = v.size ∙ y.area };
-        far = v.marked.far;
-      }
+module _ (W A₀ : List ℕ) (l : Layout) (x : FindPathCtx) (y : Ready W A₀ l) where
+  abbrev S₀ : Snapshot
+  S₀ = snap_of W A₀ l
 
-  pub settling_next : {P : (ℕ → ℕ) → Type 0} {t : Bool} (B : List ℕ) → Passed A P B t → length B ≡ length A → Settling W A₀ l x B
-  settling_next B f z =
-      record {
-        marked =
-            record {
-              far = λ m h. let a = v.marked.far m h in let b = f.lowers.less (table_words + m) in omega arith;
-              rules = ruled_less (snap_of W A₀ l) (distance A) (distance B) (distances_less f.lowers) x l.modules v.marked.rules;
-              tables = f.lowers.tables ∙ v.marked.tables;
-            };
-        size = z ∙ v.size;
-      }
+  fits : (k : ℕ) → k < l.scopes → ScopeFits (counts_in l) (entry_at W l k)
+  fits k h = scope_read W A₀ l (accepted_valid W S₀ y.reads.same) k h
 
-  pub settling_done : {t : Bool} (B : List ℕ) → Passed A (λ d. Each (Stepped (snap_of W A l) x d) (snap_of W A l).scopes) B t
-      → t ≡ false → Bounded W A₀ l x B
-  settling_done B f e =
-      let sn : snap_of W A l ≡ snap_of W A₀ l = same_snap W A₀ A l v.marked.tables y.reads in
-      let c : Closed (snap_of W A₀ l) x l.modules (distance A) =
-      record { rules = v.marked.rules; steps = subst (λ (s : Snapshot). Each (Stepped s x (distance A)) s.scopes) sn (f.holds e) } in
-      let owners : Each (λ (z : Scope). z.owner < l.modules) (snap_of W A₀ l).scopes =
-      each_map (λ z q. q.owner) (ranges_read W A₀ l (accepted_valid W (snap_of W A₀ l) y.reads.same)).scopes in
-      record {
-        bounds = subst (λ (Y : List ℕ). Bounds (snap_of W A₀ l) x l.modules (distance Y)) (sym (f.same e))
-            (closed_bounds (snap_of W A₀ l) x l.modules (distance A) c owners);
-        tables = f.lowers.tables ∙ v.marked.tables;
-      }
+  pub settling_start : {A : List ℕ} → Marked W A₀ l x A → length A ≡ length A₀ → Settling W A₀ l x A 1
+  settling_start f z =
+      record { marked = f; size = z; closed = λ k h q. let a = (f.far (entry_at W l k).owner (fits k h).owner).0 in absurd (omega arith) }
 
--- the passes begin where the rules have their marks
-module _ (W A₀ : List ℕ) (l : Layout) (x : FindPathCtx) (y : Ready W A₀ l) (A₁ : List ℕ) (f : Marked W A₀ l x A₁) where
-  sn : snap_of W A₁ l ≡ snap_of W A₀ l
-  sn = same_snap W A₀ A₁ l f.tables y.reads
+  module _ {A : List ℕ} {d : ℕ} (v : Settling W A₀ l x A d) where
+    pub settling_ready : Ready W A l
+    settling_ready = record { reads = same_reads W A₀ A l v.marked.tables y.reads; area = v.size ∙ y.area }
 
-  pub settling_ready : length A₁ ≡ length A₀ → Ready W A₁ l
-  settling_ready z = record { reads = same_reads W A₀ A₁ l f.tables y.reads; area = z ∙ y.area }
+    -- no step is larger than 16
+    step_far : (k : ℕ) → k < l.scopes → 15 ≤ distance A (entry_at W l k).owner → Stepped S₀ x (distance A) (entry_at W l k)
+    unfolding Stepped
+    step_far k h q m p i =
+        let e = entry_at W l k in
+        let b : m < l.modules = subst (Known l) p (item_known W A₀ l y.reads e.ns e.definition (fits k h).definition) in
+        let a = (v.marked.far m b).1 in
+        omega arith
 
-  pub settling_start : Settling W A₁ l x A₁
-  settling_start =
-      record {
-        marked = record { far = f.far; rules = subst (λ (s : Snapshot). Ruled s x l.modules (distance A₁)) (sym sn) f.rules; tables = refl };
-        size = refl;
-      }
+    all_bounded : ((k : ℕ) → k < l.scopes → Stepped S₀ x (distance A) (entry_at W l k)) → Bounded W A₀ l x A
+    all_bounded h =
+        let c : Closed S₀ x l.modules (distance A) = record { rules = v.marked.rules; steps = rows_each (entry_at W l) l.scopes h } in
+        record {
+          bounds = closed_bounds S₀ x l.modules (distance A) c (rows_each (entry_at W l) l.scopes (λ k o. (fits k o).owner));
+          tables = v.marked.tables;
+        }
 
-  pub settling_end : (B : List ℕ) → Bounded W A₁ l x B → Bounded W A₀ l x B
-  settling_end B b =
+    pub settling_end : 15 ≤ d → Bounded W A₀ l x A
+    settling_end h =
+        all_bounded (λ k o. by_test (ltb (distance A (entry_at W l k).owner) d) (λ t. v.closed k o (ltb-true _ _ t))
+        (λ t. step_far k o (let a = ltb-false (distance A (entry_at W l k).owner) d t in omega arith)))
+
+    module _ {B : List ℕ} {r : Bool} (f : Round (snap_of W A l) x A l.modules d B r) where
+      sn : snap_of W A l ≡ S₀
+      sn = same_snap W A₀ A l v.marked.tables y.reads
+
+      less : (m : ℕ) → distance B m ≤ distance A m
+      less = distances_less f.steps.lowers
+
+      opens : (k m : ℕ) → k < l.scopes → m < l.modules → distance A m ≡ d → Opened S₀ x (distance B) m (d + 1) (entry_at W l k)
+      opens k m o h e =
+          each_rows (entry_at W l) l.scopes k
+          (subst (λ (s : Snapshot). Each (Opened s x (distance B) m (d + 1)) s.scopes) sn (f.opened m h e)) o
+
+      stepped : (k : ℕ) → k < l.scopes → distance B (entry_at W l k).owner < d + 1 → Stepped S₀ x (distance B) (entry_at W l k)
+      unfolding Stepped Opened Nearer
+      stepped k o low m p i =
+          let e = entry_at W l k in
+          let z : distance B e.owner ≡ distance A e.owner =
+          by_same (distance B e.owner) (distance A e.owner) (λ q. q) (λ n. let q = f.steps.changed e.owner n in absurd (omega (arith, q.0, low))) in
+          by_same (distance A e.owner) d
+          (λ t.
+          let g = module_entry S₀ e e.owner m refl p in
+          let b = opens k e.owner o (fits k o).owner t g.0 i in
+          let c : distance B m ≤ d + 1 = subst (λ (j : ℕ). distance B j ≤ d + 1) g.1 b in
+          omega (arith, c, z, t))
+          (λ n.
+          let b = v.closed k o (omega (arith, z, low, n)) m p i in
+          let c = less m in
+          omega (arith, b, c, z))
+
+      pub settling_next : length B ≡ length A → Settling W A₀ l x B (d + 1)
+      settling_next z =
+          record {
+            marked =
+                record {
+                  far = λ m h. let a = v.marked.far m h in let b = less m in (f.steps.lowers.some (table_words + m) a.0, omega (arith, a.1, b));
+                  rules = ruled_less S₀ (distance A) (distance B) less x l.modules v.marked.rules;
+                  tables = f.steps.lowers.tables ∙ v.marked.tables;
+                };
+            size = z ∙ v.size;
+            closed = stepped;
+          }
+
+      -- no number between d and 16 is left
+      pub settling_stop : r ≡ false → Bounded W A₀ l x B
+      settling_stop e =
+          let q = f.steps.same e in
+          let c : (k : ℕ) → k < l.scopes → Stepped S₀ x (distance A) (entry_at W l k) =
+          λ k o.
+          by_test (ltb d (distance A (entry_at W l k).owner))
+          (λ t. step_far k o (let a = f.done e (entry_at W l k).owner (fits k o).owner (ltb-true _ _ t) in omega arith))
+          (λ t.
+          subst (λ (Y : List ℕ). Stepped S₀ x (distance Y) (entry_at W l k)) q
+          (stepped k o (let a = ltb-false d (distance A (entry_at W l k).owner) t in
+          let b = less (entry_at W l k).owner in omega arith)))
+          in
+          subst (Bounded W A₀ l x) (sym q) (all_bounded c)
+
+-- the numbers are set from the marks on
+module _ (W A₀ : List ℕ) (l : Layout) (x : FindPathCtx) (y : Ready W A₀ l) {A₁ : List ℕ} (f : Marked W A₀ l x A₁) where
+  pub marked_ready : length A₁ ≡ length A₀ → Ready W A₁ l
+  marked_ready z = record { reads = same_reads W A₀ A₁ l f.tables y.reads; area = z ∙ y.area }
+
+  pub marked_again : Marked W A₁ l x A₁
+  marked_again =
+      let sn = same_snap W A₀ A₁ l f.tables y.reads in
+      record { far = f.far; rules = subst (λ (s : Snapshot). Ruled s x l.modules (distance A₁)) (sym sn) f.rules; tables = refl }
+
+  pub bounded_from : (B : List ℕ) → Bounded W A₁ l x B → Bounded W A₀ l x B
+  bounded_from B b =
+      let sn = same_snap W A₀ A₁ l f.tables y.reads in
       record { bounds = subst (λ (s : Snapshot). Bounds s x l.modules (distance B)) sn b.bounds; tables = b.tables ∙ f.tables }

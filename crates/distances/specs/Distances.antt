@@ -5,6 +5,7 @@ use Rattle.snapshot.specs.Records.{Snapshot, Scope, Prelude}
 use Rattle.snapshot.specs.Layouts.{table_words}
 use Rattle.accept.specs.Valid.{Each}
 use Rattle.hir_def.specs.Items.{map_no, crate_root, item_of, module_item}
+use Rattle.hir_def.specs.ItemScope.{is_module_entry, entry_module}
 use Rattle.hir_def.specs.Nameres.{ancestor_maps, prelude_of}
 use Rattle.find_path.specs.declared.FindPathCtx.{FindPathCtx}
 use Rattle.find_path.specs.Rules.{may_be_in_scope, is_kw_kind_relative_to_from, keyword_of}
@@ -17,7 +18,7 @@ distance A m = get_or A (table_words + m) 0
 
 -- the first word past them
 abbrev pub distances_end : ℕ
-distances_end = 4672
+distances_end = 7616
 
 -- Numbers d of the modules below n: a local search for a module finds nothing with less than its number left.
 abbrev pub Bounds : Snapshot → FindPathCtx → ℕ → (ℕ → ℕ) → Type 0
@@ -30,6 +31,14 @@ Named s d c e = (m : ℕ) → e.owner ≡ c → item_of s e.ns e.definition ≡ 
 -- an entry for a module by which the viewer can import it: its number is at most one more than that of the entry's module
 unfoldable pub Stepped : Snapshot → FindPathCtx → (ℕ → ℕ) → Scope → Type 0
 Stepped s x d e = (m : ℕ) → item_of s e.ns e.definition ≡ module_item m → is_importable s x e ≡ true → d m ≤ d e.owner + 1
+
+-- an entry for a module by which the viewer can import it: this one's number is at most k
+unfoldable pub Nearer : Snapshot → FindPathCtx → (ℕ → ℕ) → ℕ → Scope → Type 0
+Nearer s x d k e = is_importable s x e ≡ true → d (entry_module s e) ≤ k
+
+-- so, of the entries of the module c
+unfoldable pub Opened : Snapshot → FindPathCtx → (ℕ → ℕ) → ℕ → ℕ → Scope → Type 0
+Opened s x d c k e = is_module_entry s c e ≡ true → Nearer s x d k e
 
 abbrev pub is_keyword : Snapshot → FindPathCtx → ℕ → Bool
 is_keyword s x m = (keyword_of s x (is_kw_kind_relative_to_from s x m)).found

@@ -2,29 +2,29 @@
 //! bounds of the steps to an answer of the rules, taken over all entries that the viewer can use.
 #![tactic(auto)]
 
-ghost use Rattle.std.specs.Prelude.{◌≡◌, true, ℕ, ◌≤◌, ◌<◌, length};
+ghost use Rattle.std.specs.Prelude.{◌≡◌, true, ℕ, ◌^◌, ◌≤◌, ◌<◌};
 ghost use Rattle.std.specs.Prelude.{Some};
-ghost use Rattle.snapshot.specs.Limits.{module_limit, area_limit};
+ghost use Rattle.snapshot.specs.Limits.{module_limit};
 ghost use Rattle.snapshot.specs.Records.{Prelude, scope_at};
 ghost use Rattle.snapshot.specs.Laid.{snap_by};
 ghost use Rattle.record_rules.specs.Stands.{counts_in};
 ghost use Rattle.accept.specs.Valid.{Each, ScopeFits};
 ghost use Rattle.hir_def.specs.Items.{map_no};
+ghost use Rattle.hir_def.specs.ItemScope.{entry_module};
 ghost use Rattle.hir_def.specs.Nameres.{ancestor_maps, prelude_of};
-ghost use Rattle.distances.specs.Distances.{distance, Named, Stepped, is_keyword};
-ghost use Rattle.distances.specs.Post.{Ready, Numbered, Rooted, Marked, Lowers, Passed, Bounded};
+ghost use Rattle.distances.specs.Distances.{distance, Named, Nearer, Opened, is_keyword};
+ghost use Rattle.distances.specs.Post.{Ready, Cleared, Rooted, Marked, Lowers, Steps, Turned, Round, Bounded};
 
 use accept::opened::Snapshot;
 use crate_graph::prelude_of;
 use find_path::FindPathCtx;
-use hir_def::Item;
-use hir_def::items::item_at;
-use hir_def::modules::{block, crate_root, map, parent};
+use hir_def::items::first_of;
+use hir_def::modules::{block, map, own, parent, root};
+use item_scope::modules_in_scope;
 use path_rules::rules::{keyword_rule, may_be_in_scope};
 use rule_lookups::is_importable;
-use snapshot::ids::{Area, ModuleId};
-use snapshot::kind::Size;
-use snapshot::record::{prelude_target, scope_owner};
+use snapshot::ids::{Area, Crate, ModuleId};
+use snapshot::record::{prelude_target, scope_definition};
 use snapshot::records::Records;
 use snapshot::table::Tables;
 use snapshot::words::word;
@@ -35,38 +35,19 @@ pub struct Distances;
 impl Distances {
     pub const AT: usize = Tables::END;
 
-    pub const END: usize = 4672;
+    pub const END: usize = 7616;
 
     /// The number of a module that no length reaches.
     pub const FAR: usize = 16;
 }
 
-// The number of a module with that crate's root.
-// The shape of `told_routes::looked_in`, of other types and under another clause.
-fn first_number(m: ModuleId, root: ModuleId) -> usize
-    ensures { (result ≤ 16) × (root.0 ≡ m.0 → result ≤ 1) }
+// Every module is far.
+// The area is passed whole, since the clause says that its other words stay.
+fn clear_numbers(area: &mut Area, count: usize)
+    requires { count ≤ module_limit }
+    ensures { Cleared area.old count area.new }
 {
-    if root == m {
-        return 1;
-    }
-    Distances::FAR
-}
-
-// Every module is far, but for the roots of crates.
-fn set_roots(records: &Records, area: &mut [u32])
-    requires { Ready records.now.words.now area.old records.now.layout }
-    ensures { Rooted records.now.words.now area.old records.now.layout records.now.layout.modules area.new }
-{
-    let count = records.layout.modules;
-    for m in 0..count {
-        let db = Snapshot {
-            records: *records,
-            area,
-        };
-        let root = crate_root(&db, ModuleId(m));
-        let d = first_number(ModuleId(m), root);
-        area[Distances::AT + m] = d as u32;
-    }
+    area[Distances::AT..Distances::AT + count].fill(Distances::FAR as u32);
 }
 
 // A module that a rule may answer for.
@@ -81,33 +62,41 @@ fn mark(area: &mut Area, m: ModuleId)
     area[at] = 1;
 }
 
-// The module of the entry with its head at a place, if it is one of c's.
-fn mark_entry(records: &Records, area: &mut Area, c: ModuleId, h: usize)
-    requires { Ready records.now.words.now area.old records.now.layout × ScopeFits (counts_in records.now.layout) (scope_at records.now.words.now h) }
-    ensures { Lowers area.old area.new × Named (snap_by records.now area.old)
-        (distance area.new) c.0 (scope_at records.now.words.now h) }
+// The roots of crates.
+fn mark_roots(records: &Records, area: &mut Area)
+    requires { Ready records.now.words.now area.old records.now.layout }
+    ensures { Lowers area.old area.new × Rooted (snap_by records.now area.old) records.now.layout area.new }
 {
-    if scope_owner(records.words, h) != c {
-        return;
+    for c in 0..records.layout.crates {
+        let db = Snapshot {
+            records: *records,
+            area,
+        };
+        let r = root(&db, own(&db, Crate(c)));
+        mark(area, r);
     }
-    let Item::Mod(m) = item_at(records, h) else {
-        return;
-    };
-    mark(area, m);
 }
 
 // The modules of the entries of c.
+// `loop`: each turn looks for the next entry after the last, in the snapshot as it then is.
 fn mark_scope(records: &Records, area: &mut Area, c: ModuleId)
     requires { Ready records.now.words.now area.old records.now.layout }
     ensures { Lowers area.old area.new
         × Each (Named (snap_by records.now area.old) (distance area.new) c.0)
         (snap_by records.now area.old).scopes }
 {
-    let base = records.layout.scope_base();
-    let count = records.layout.scopes;
-    // `base + size * k` as in a `Span`: a method for it would be this sum under a name.
-    for k in 0..count {
-        mark_entry(records, area, c, base + Size::SCOPE * k);
+    let mut k = 0;
+    loop {
+        let db = Snapshot {
+            records: *records,
+            area,
+        };
+        let Some(next) = modules_in_scope(&db, k, c) else {
+            return;
+        };
+        let m = first_of(records, scope_definition(records.words, next.head));
+        mark(area, ModuleId(m));
+        k = next.number + 1;
     }
 }
 
@@ -185,21 +174,14 @@ fn mark_keywords(records: &Records, area: &mut Area, x: FindPathCtx)
     mark_keyword(records, area, x, p);
 }
 
-// The step of the entry with its head at a place; whether it made a number smaller.
-fn relax_entry(records: &Records, area: &mut [u32], x: FindPathCtx, h: usize) -> bool
-    requires { Numbered records.now.words.now area.old records.now.layout × (x.from.0 < records.now.layout.modules) × ScopeFits (counts_in records.now.layout) (scope_at records.now.words.now h) }
-    ensures { Passed area.old (λ d. Stepped (snap_by records.now area.old) x d
-        (scope_at records.now.words.now h)) area.new result }
+// The step of an entry for a module, to the number d at most; whether it made a number smaller.
+fn relax_entry(records: &Records, area: &mut Area, x: FindPathCtx, h: usize, d: usize) -> bool
+    requires { Ready records.now.words.now area.old records.now.layout × (x.from.0 < records.now.layout.modules) × ScopeFits (counts_in records.now.layout) (scope_at records.now.words.now h)
+        × (entry_module (snap_by records.now area.old) (scope_at records.now.words.now h) < records.now.layout.modules) × (0 < d) × (d < 2 ^ 32) }
+    ensures { Steps area.old d area.new result × Nearer (snap_by records.now area.old) x (distance area.new) d (scope_at records.now.words.now h) }
 {
-    let owner = scope_owner(records.words, h);
-    let d = word(area, Distances::AT + owner.0) + 1;
-    if Distances::FAR <= d {
-        return false;
-    }
-    let Item::Mod(m) = item_at(records, h) else {
-        return false;
-    };
-    let at = Distances::AT + m.0;
+    let m = first_of(records, scope_definition(records.words, h));
+    let at = Distances::AT + m;
     if word(area, at) <= d {
         return false;
     }
@@ -214,21 +196,52 @@ fn relax_entry(records: &Records, area: &mut [u32], x: FindPathCtx, h: usize) ->
     true
 }
 
-// The steps of all entries; whether one made a number smaller.
-fn relax(records: &Records, area: &mut [u32], x: FindPathCtx) -> bool
-    requires { Numbered records.now.words.now area.old records.now.layout × (x.from.0 < records.now.layout.modules) }
-    ensures { Passed area.old (λ d. Each (Stepped (snap_by records.now area.old) x d)
-        (snap_by records.now area.old).scopes) area.new result }
+// The steps of the entries of m, to the number d at most; whether one made a number smaller.
+// `loop`, as in `mark_scope`.
+fn relax_scope(records: &Records, area: &mut Area, x: FindPathCtx, m: ModuleId, d: usize) -> bool
+    requires { Ready records.now.words.now area.old records.now.layout × (x.from.0 < records.now.layout.modules) × (0 < d) × (d < 2 ^ 32) }
+    ensures { Steps area.old d area.new result
+        × Each (Opened (snap_by records.now area.old) x (distance area.new) m.0 d) (snap_by records.now area.old).scopes }
 {
-    let base = records.layout.scope_base();
-    let count = records.layout.scopes;
     let mut changed = false;
-    // `base + size * k` as in `mark_scope`.
-    for k in 0..count {
-        let r = relax_entry(records, area, x, base + Size::SCOPE * k);
+    let mut k = 0;
+    loop {
+        let db = Snapshot {
+            records: *records,
+            area,
+        };
+        let Some(next) = modules_in_scope(&db, k, m) else {
+            return changed;
+        };
+        let r = relax_entry(records, area, x, next.head, d);
         changed = changed | r;
+        k = next.number + 1;
     }
-    changed
+}
+
+// The steps from m, where its number is d; whether there is more to do than for the numbers up to d.
+fn relax_at(records: &Records, area: &mut Area, x: FindPathCtx, m: ModuleId, d: usize) -> bool
+    requires { Ready records.now.words.now area.old records.now.layout × (x.from.0 < records.now.layout.modules) × (m.0 < records.now.layout.modules) × (d < 16) }
+    ensures { Turned (snap_by records.now area.old) x area.old m.0 d area.new result }
+{
+    let w = word(area, Distances::AT + m.0);
+    if w == d {
+        return relax_scope(records, area, x, m, d + 1);
+    }
+    (d < w) & (w < Distances::FAR)
+}
+
+// The steps from all modules with the number d; whether there is more to do.
+fn relax(records: &Records, area: &mut Area, x: FindPathCtx, d: usize) -> bool
+    requires { Ready records.now.words.now area.old records.now.layout × (x.from.0 < records.now.layout.modules) × (d < 16) }
+    ensures { Round (snap_by records.now area.old) x area.old records.now.layout.modules d area.new result }
+{
+    let mut more = false;
+    for m in 0..records.layout.modules {
+        let r = relax_at(records, area, x, ModuleId(m), d);
+        more = more | r;
+    }
+    more
 }
 
 // The modules that a rule may answer for.
@@ -236,7 +249,8 @@ fn mark_rules(records: &Records, area: &mut Area, x: FindPathCtx)
     requires { Ready records.now.words.now area.old records.now.layout × (x.from.0 < records.now.layout.modules) }
     ensures { Marked records.now.words.now area.old records.now.layout x area.new }
 {
-    set_roots(records, area);
+    clear_numbers(area, records.layout.modules);
+    mark_roots(records, area);
     mark_keywords(records, area, x);
     mark_prelude(records, area, x.from);
     if !may_be_in_scope(x) {
@@ -246,14 +260,13 @@ fn mark_rules(records: &Records, area: &mut Area, x: FindPathCtx)
 }
 
 /// Sets the numbers of all modules.
-// `loop`: a pass more until one changes nothing; their number is not known before.
 pub fn set_distances(records: &Records, area: &mut Area, x: FindPathCtx)
     requires { Ready records.now.words.now area.old records.now.layout × (x.from.0 < records.now.layout.modules) }
     ensures { Bounded records.now.words.now area.old records.now.layout x area.new }
 {
     mark_rules(records, area, x);
-    loop {
-        if !relax(records, area, x) {
+    for d in 1..Distances::FAR - 1 {
+        if !relax(records, area, x, d) {
             return;
         }
     }

@@ -4,7 +4,9 @@ use Rattle.hir_def.specs.declared.Span.{Span}
 use Prim.Native.Nat.{ℕ, zero, suc, ◌+◌, ◌-◌, ◌*◌, ◌≤◌, ◌<◌}
 use mathlib.Core.Path.{◌≡◌, refl, sym, ◌∙◌, ap, subst}
 use mathlib.Core.List.{List, ◌∷◌}
-use mathlib.Core.Bool.{Bool}
+use mathlib.Core.Bool.{Bool, true, false}
+use lib.Dec.{eqb}
+use borrow.Author.Tests.{eqb-true, eqb-false}
 use Rattle.std.specs.Prelude.{Option, None, Some, ℕ}
 use native.Mathlib.Omega.{arith}
 use native.Mathlib.Nat.{add-zero}
@@ -16,6 +18,7 @@ use Rattle.snapshot.specs.declared.ids.ModuleId.{ModuleId}
 use Rattle.snapshot.specs.declared.layout.Layout.{Layout}
 use Rattle.snapshot.proofs.Laws.{rows_whole}
 use Rattle.accept.specs.Post.{Reads}
+use Rattle.accept.proofs.Accepted.{by_test}
 use Rattle.accept.proofs.Trees.{accepted_tree}
 use Rattle.hir_def.specs.Items.{block_of}
 use Rattle.hir_def.proofs.Reading.{length_modules}
@@ -27,7 +30,7 @@ use Rattle.hir_def.proofs.Ancestors.{first_here, first_end, first_on}
 use Rattle.hir_def.specs.Finds.{first_of, reads_of, first_some}
 use Rattle.hir_def.specs.Entries.{entry_of, NextOf}
 use Rattle.hir_def.specs.Spans.{Covers}
-use Rattle.hir_def.specs.Tests.{PassedBy, MeetsBy, NextBy, FirstBy, Outwards}
+use Rattle.hir_def.specs.Tests.{Only, PassedBy, MeetsBy, NextBy, FirstBy, Outwards}
 use Rattle.hir_def.proofs.Lookups.{Came, next_start, next_hit, next_miss, next_end, first_hit, first_miss, first_none, reads_hit, reads_miss, reads_none}
 
 -- the next, record by record
@@ -39,6 +42,15 @@ module _ (P : ℕ → Bool → Type 0) (size b n k : ℕ) {r : Option Place} (x 
   pub passed_by : r ≡ None → PassedBy P size b k n
   unfolding NextBy
   passed_by e = subst (NextBy P size b n k) e x
+
+-- what a test answers of an owner's records, it answers of all where q passes no others
+pub only_agree : {R : Type 0} (owner : ℕ → ℕ) (c : ℕ) (q : R → Bool) (f : ℕ → R) (P : ℕ → Bool → Type 0)
+    → ((h : ℕ) → (owner h ≡ c → ⊥) → q (f h) ≡ false)
+    → ((h : ℕ) (t : Bool) → P h t → t ≡ q (f h)) → (h : ℕ) (t : Bool) → Only owner c P h t → t ≡ q (f h)
+unfolding Only
+only_agree owner c q f P others agree h true p = agree h true p
+only_agree owner c q f P others agree h false p =
+    by_test (eqb (owner h) c) (λ e. agree h false (p (eqb-true _ _ e))) (λ e. sym (others h (eqb-false _ _ e)))
 
 module _ {R : Type 0} (q : R → Bool) (f : List ℕ → ℕ → R) (W : List ℕ) {P : ℕ → Bool → Type 0} (size n : ℕ) {b base : ℕ} (same : b ≡ base)
     (agree : (h : ℕ) (t : Bool) → P h t → t ≡ q (f W h)) where

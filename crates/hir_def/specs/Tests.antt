@@ -7,6 +7,11 @@ use Rattle.snapshot.specs.Records.{Scope, scope_at}
 use Rattle.snapshot.specs.declared.ids.ModuleId.{ModuleId}
 use Rattle.hir_def.specs.Entries.{entry_of}
 
+-- a test that is asked of an owner's records alone: what does not pass, the test does not pass where it is its
+unfoldable pub Only : (ℕ → ℕ) → ℕ → (ℕ → Bool → Type 0) → ℕ → Bool → Type 0
+Only owner c P h true = P h true
+Only owner c P h false = owner h ≡ c → P h false
+
 -- of records of one size from a place on, those with numbers from k up to j don't pass
 abbrev pub PassedBy : (ℕ → Bool → Type 0) → ℕ → ℕ → ℕ → ℕ → Type 0
 PassedBy P size base k j = (i : ℕ) → k ≤ i → i < j → P (base + size * i) false

@@ -5,7 +5,7 @@ ghost use Rattle.snapshot.specs.Records.{Scope, scope_at};
 ghost use Rattle.hir_def.specs.Entries.{entry_of};
 ghost use Rattle.hir_def.specs.Finds.{first_some};
 ghost use Rattle.hir_def.specs.Nameres.{steps};
-ghost use Rattle.hir_def.specs.Tests.{NextBy, FirstBy, Outwards};
+ghost use Rattle.hir_def.specs.Tests.{Only, NextBy, FirstBy, Outwards};
 
 use crate::{Place, Span};
 use snapshot::ids::ModuleId;
@@ -20,6 +20,28 @@ pub fn next_where<F: Fn(usize) -> bool>(span: Span, k: usize, test: F) -> Option
         let h = span.base + span.size * j;
         if test(h) {
             return Some(Place { number: j, head: h });
+        }
+    }
+    None
+}
+
+/// The next record whose head passes the test, from the number k on, of those from one number to another.
+#[inline]
+pub fn next_within<F: Fn(usize) -> bool>(
+    span: Span,
+    k: usize,
+    low: usize,
+    high: usize,
+    test: F,
+) -> Option<Place>
+    requires takes { (i : ℕ) → i < span.count → F.pre test (span.base + span.size * i) }
+    ensures { (owner : ℕ → ℕ) (c : ℕ) → ((i : ℕ) → i < span.count → owner (span.base + span.size * i) ≡ c → (low ≤ i) × (i < high))
+        → NextBy (Only owner c (F.post test)) span.size span.base span.count k result }
+{
+    for i in k.max(low)..high.min(span.count) {
+        let h = span.base + span.size * i;
+        if test(h) {
+            return Some(Place { number: i, head: h });
         }
     }
     None

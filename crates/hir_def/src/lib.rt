@@ -43,6 +43,13 @@ pub struct Span {
     ghost fits: { base + size * count < 2 ^ 32 },
 }
 
+/// The numbers of some records of a kind: from the first on, up to the one before `high`.
+#[derive(Clone, Copy)]
+pub struct Part {
+    pub low: usize,
+    pub high: usize,
+}
+
 /// The viewing module in its snapshot.
 // For readers whose viewer stays the same. A function that writes to the area makes one where it calls them: while a view is there, its area is only read.
 #[derive(Clone, Copy)]

@@ -1,11 +1,15 @@
 //! The records of each kind that is searched.
+ghost use Rattle.std.specs.Prelude.{◌^◌, ◌<◌};
 ghost use Rattle.snapshot.specs.Sizes.{dependency_size, prelude_size, definition_size, scope_size, import_size, extern_size, member_size};
 ghost use Rattle.snapshot.specs.Layouts.{dependency_base, prelude_base, definition_base, scope_base, import_base, extern_base, member_base};
-ghost use Rattle.hir_def.specs.Spans.{Covers};
+ghost use Rattle.hir_def.specs.Spans.{Covers, Parted};
 
-use crate::Span;
+use crate::{Part, Span};
+use accept::opened::Snapshot;
+use snapshot::ids::Crate;
 use snapshot::kind::Size;
 use snapshot::records::Records;
+use snapshot::words::word;
 
 // One for each kind: what differs is the accessor of its base, its size and the field of its number, so one over `Kind` would match on it
 // three times, with a case for kinds that are not searched.
@@ -83,5 +87,19 @@ pub fn members(records: &Records) -> Span
         base: records.layout.member_base(),
         size: Size::MEMBER,
         count: records.layout.members,
+    }
+}
+
+/// Where the records of a crate stand, by the table of their kind.
+pub fn part_of(db: &Snapshot, at: usize, c: Crate) -> Part
+    requires { at < 2 ^ 32 }
+    ensures { Parted db.now.records.layout db.now.area.now at c.0 result }
+{
+    if db.records.layout.crates <= c.0 {
+        return Part { low: 0, high: 0 };
+    }
+    Part {
+        low: word(db.area, at + c.0),
+        high: word(db.area, at + Crate::LIMIT + c.0),
     }
 }

@@ -27,9 +27,10 @@ use Rattle.module_tree.proofs.Reading.{root_read}
 use Rattle.hir_def.specs.Items.{module_kind, definition_of, root_of, own_map}
 use Rattle.hir_def.proofs.Fits.{module_known}
 use Rattle.import_rules.specs.Collect.{entries_of, piled, visits, modules_from}
+use Rattle.import_order.specs.Rooms.{entries_room, heads_room, spare_room}
 use Rattle.import_order.specs.Lists.{Ready, waiting}
 use Rattle.import_order.proofs.Visits.{entries_few, visits_same, waiting_all, length_piled}
-use Rattle.import_lists.specs.Threads.{rest, public_in, entry_of, Threaded}
+use Rattle.import_lists.specs.Threads.{member_heads_base, member_links_base, rest, public_in, entry_of, Threaded}
 use Rattle.import_lists.specs.Walks.{marks_base, order_base, pile_base, down_from, pile_at, order_at, seen_at, turns_at, walk_at, Pushed, Walking}
 use Rattle.import_lists.specs.Walks.{Turned, Walked}
 use Rattle.import_lists.specs.declared.walk.Turn.{Turn}
@@ -70,13 +71,13 @@ threaded_kept {W} {A} {B} {l} {n} t size below =
     record {
       ready = record { reads = reads_stay W A B l r.reads (λ i u v. below i (omega arith)); size = size ∙ r.size };
       few = t.few;
-      list = rows_ext _ _ n (λ i h. ap (scope_at W) (below (4160 + i) (omega arith))) ∙ t.list ∙ ap public_in (sym q);
+      list = rows_ext _ _ n (λ i h. ap (scope_at W) (below (entries_room + i) (omega arith))) ∙ t.list ∙ ap public_in (sym q);
       entries =
-          chained_kept A B 6208 6720 _ _ n t.entries (λ b h. below (6208 + b) (omega arith)) (λ i h. below (6720 + i) (omega arith))
-          (λ i h. ap (λ x. (scope_at W x).owner) (below (4160 + (n - 1 - i)) (omega arith)));
+          chained_kept A B heads_room spare_room _ _ n t.entries (λ b h. below (heads_room + b) (omega arith)) (λ i h. below (spare_room + i) (omega arith))
+          (λ i h. ap (λ x. (scope_at W x).owner) (below (entries_room + (n - 1 - i)) (omega arith)));
       members =
-          chained_kept A B 8768 10816 _ _ l.members t.members (λ b h. below (8768 + b) (omega arith))
-          (λ i h. below (10816 + i) (omega arith)) (λ i h. refl);
+          chained_kept A B (member_heads_base l) (member_links_base l) _ _ l.members t.members (λ b h. below (member_heads_base l + b) (omega arith))
+          (λ i h. below (member_links_base l + i) (omega arith)) (λ i h. refl);
     }
 
 -- one module put on the pile, or none
@@ -118,7 +119,7 @@ abbrev pub rest_at : List ℕ → List ℕ → ℕ → ℕ → List Scope
 rest_at W A n at = rest (owner_of W A n) (entry_of W A n) at
 
 -- the thread of a module, from its head on
-pub thread_of : {W A : List ℕ} {l : Layout} {n m at : ℕ} → Threaded W A l n → m < 512 → at ≡ get_or A (6208 + m) 0
+pub thread_of : {W A : List ℕ} {l : Layout} {n m at : ℕ} → Threaded W A l n → m < 512 → at ≡ get_or A (heads_room + m) 0
     → (rest_at W A n at ≡ entries_of (snap_of W A l) m) × (at ≤ n)
 thread_of {W} {A} {l} {n} {m} {at} th small e =
     let h : Last (owner_of W A n) m n at = rw e (th.entries.first m small) in
@@ -129,10 +130,10 @@ module _ {W A : List ℕ} {l : Layout} {n at : ℕ} (th : Threaded W A l n) (wit
   pub thread_fits : ScopeFits (counts_in l) (entry_of W A n (at - 1))
   thread_fits = threaded_fits th (at - 1) (omega arith)
 
-  pub thread_word : {entry : ℕ} → entry ≡ get_or A (4160 + (n - at)) 0 → scope_at W entry ≡ entry_of W A n (at - 1)
-  thread_word e = let q : n - at ≡ n - 1 - (at - 1) = omega arith in ap (scope_at W) (e ∙ ap (λ x. get_or A (4160 + x) 0) q)
+  pub thread_word : {entry : ℕ} → entry ≡ get_or A (entries_room + (n - at)) 0 → scope_at W entry ≡ entry_of W A n (at - 1)
+  thread_word e = let q : n - at ≡ n - 1 - (at - 1) = omega arith in ap (scope_at W) (e ∙ ap (λ x. get_or A (entries_room + x) 0) q)
 
-  pub thread_next : {next : ℕ} → next ≡ get_or A (6720 + (at - 1)) 0 → (rest_at W A n at ≡ entry_of W A n (at - 1) ∷ rest_at W A n next) × (next < at)
+  pub thread_next : {next : ℕ} → next ≡ get_or A (spare_room + (at - 1)) 0 → (rest_at W A n at ≡ entry_of W A n (at - 1) ∷ rest_at W A n next) × (next < at)
   thread_next {next} e =
       let last : Last (owner_of W A n) (owner_of W A n (at - 1)) (at - 1) next = rw e (th.entries.next (at - 1) (omega arith)) in
       let h = last.within in
@@ -147,7 +148,7 @@ pub record Pushing (W A : List ℕ) (l : Layout) (n t first : ℕ) (B : List ℕ
   pub high : t ≤ u
 
 module _ {W A : List ℕ} {l : Layout} {n t : ℕ} (th : Threaded W A l n) where
-  pub pushing_start : {m at : ℕ} → m < 512 → t + length (entries_of (snap_of W A l) m) ≤ l.scopes + 1 → at ≡ get_or A (6208 + m) 0
+  pub pushing_start : {m at : ℕ} → m < 512 → t + length (entries_of (snap_of W A l) m) ≤ l.scopes + 1 → at ≡ get_or A (heads_room + m) 0
       → Pushing W A l n t at A at t
   pushing_start {m} {at} small fits e =
       let q = thread_of th small e in
@@ -164,24 +165,24 @@ module _ {W A : List ℕ} {l : Layout} {n t : ℕ} (th : Threaded W A l n) where
       small_n : n ≤ 2048
       small_n = let f = th.few in omega (arith, th.ready.reads.tables.whole, th.ready.reads.tables.short)
 
-      entry_same : {entry : ℕ} → entry ≡ get_or B (4160 + (n - at)) 0 → scope_at W entry ≡ entry_of W A n (at - 1)
-      entry_same e = let w = g.within in let z = small_n in thread_word th w some (e ∙ g.below (4160 + (n - at)) (omega arith))
+      entry_same : {entry : ℕ} → entry ≡ get_or B (entries_room + (n - at)) 0 → scope_at W entry ≡ entry_of W A n (at - 1)
+      entry_same e = let w = g.within in let z = small_n in thread_word th w some (e ∙ g.below (entries_room + (n - at)) (omega arith))
 
-      pub entry_known : {entry : ℕ} → entry ≡ get_or B (4160 + (n - at)) 0 → (scope_at W entry).definition < l.definitions
+      pub entry_known : {entry : ℕ} → entry ≡ get_or B (entries_room + (n - at)) 0 → (scope_at W entry).definition < l.definitions
       entry_known e = subst (λ x. x.definition < l.definitions) (sym (entry_same e)) (thread_fits th g.within some).definition
 
       pub pushing_room : u ≤ l.scopes
       pushing_room = let h = g.room in let e = ap length (thread_next th g.within some refl).0 in omega arith
 
-      pub pushing_next : {entry v next : ℕ} {C : List ℕ} → entry ≡ get_or B (4160 + (n - at)) 0
-          → Pushed l u (piled (snap_of W B l) (scope_at W entry ∷ []) (pile_at B l u)) B C v → next ≡ get_or C (6720 + (at - 1)) 0
+      pub pushing_next : {entry v next : ℕ} {C : List ℕ} → entry ≡ get_or B (entries_room + (n - at)) 0
+          → Pushed l u (piled (snap_of W B l) (scope_at W entry ∷ []) (pile_at B l u)) B C v → next ≡ get_or C (spare_room + (at - 1)) 0
           → Pushing W A l n t first C next v
       pushing_next {entry} {v} {next} {C} e p q =
           let w = g.within in
           let b = g.high in
           let c = p.grows in
           let z = small_n in
-          let d : next ≡ get_or A (6720 + (at - 1)) 0 = q ∙ p.below (6720 + (at - 1)) (omega arith) ∙ g.below (6720 + (at - 1)) (omega arith) in
+          let d : next ≡ get_or A (spare_room + (at - 1)) 0 = q ∙ p.below (spare_room + (at - 1)) (omega arith) ∙ g.below (spare_room + (at - 1)) (omega arith) in
           let h = (thread_next th w some d).1 in
           let more : rest_at W A n at ≡ scope_at W entry ∷ rest_at W A n next = (thread_next th w some d).0
           ∙ ap (λ x. x ∷ rest_at W A n next) (sym (entry_same e)) in
@@ -206,14 +207,14 @@ module _ {W A : List ℕ} {l : Layout} {n t : ℕ} (th : Threaded W A l n) where
           }
 
       -- the turns end
-      pub pushing_falls : {v next : ℕ} {C : List ℕ} {pile : List ℕ} → Pushed l u pile B C v → next ≡ get_or C (6720 + (at - 1)) 0 → next < at
+      pub pushing_falls : {v next : ℕ} {C : List ℕ} {pile : List ℕ} → Pushed l u pile B C v → next ≡ get_or C (spare_room + (at - 1)) 0 → next < at
       pushing_falls {v} {next} {C} p q =
           let w = g.within in
           let z = small_n in
           let b = g.high in
-          (thread_next th w some (q ∙ p.below (6720 + (at - 1)) (omega arith) ∙ g.below (6720 + (at - 1)) (omega arith))).1
+          (thread_next th w some (q ∙ p.below (spare_room + (at - 1)) (omega arith) ∙ g.below (spare_room + (at - 1)) (omega arith))).1
 
-    pub pushing_done : {m : ℕ} → m < 512 → first ≡ get_or A (6208 + m) 0
+    pub pushing_done : {m : ℕ} → m < 512 → first ≡ get_or A (heads_room + m) 0
         → at ≡ 0 → Pushed l t (piled (snap_of W A l) (entries_of (snap_of W A l) m) (pile_at A l t)) A B u
     unfolding piled
     pushing_done small e z =

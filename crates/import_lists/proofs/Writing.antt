@@ -24,10 +24,11 @@ use Rattle.hir_def.specs.Finds.{select}
 use Rattle.search_laws.proofs.Walks.{select_short}
 use Rattle.import_rules.specs.Collect.{entry_before, is_public_in, entries_of, is_member_of, member_ns, member_import, entry_import, imports_of, imports_in}
 use Rattle.import_rules.specs.Collect.{imports_over, words_of}
+use Rattle.import_order.specs.Rooms.{entries_room, heads_room, spare_room}
 use Rattle.import_order.specs.Lists.{Ready}
 use Rattle.import_order.proofs.Visits.{length_sort}
 use Rattle.import_words.proofs.Taken.{words_length, words_append}
-use Rattle.import_lists.specs.Threads.{rest, member_of, Threaded}
+use Rattle.import_lists.specs.Threads.{member_heads_base, member_links_base, rest, member_of, Threaded}
 use Rattle.import_lists.specs.Walks.{order_base, order_at}
 use Rattle.import_lists.specs.Writes.{new_import, Bounded, written, Space, Wrote, is_kept, kept_imports, members_of, Listed}
 use Rattle.import_lists.proofs.Keyed.{rest_first, rest_next, rest_none, keyed_rows, select_both}
@@ -236,11 +237,10 @@ module _ {W A : List ℕ} {l : Layout} {c : ℕ} {e : Scope} (h : Listed W A l c
       let q = h.ready.reads.tables.limited in
       record { owner = omega arith; ns = f.ns; definition = omega arith; name = omega arith; container = omega arith; bits = f.bits }
 
-  pub kept_first : {d k : ℕ} → d ≡ e.definition → k ≡ get_or A (8768 + d) 0 → (kept_at W l c e k ≡ members_of (snap_of W A l) c e) × (k ≤ l.members)
+  pub kept_first : {d k : ℕ} → d ≡ e.definition → k ≡ get_or A (member_heads_base l + d) 0 → (kept_at W l c e k ≡ members_of (snap_of W A l) c e) × (k ≤ l.members)
   unfolding kept_imports members_of
   kept_first {d} {k} ed ek =
       let f = h.fits.definition in
-      let q = h.ready.reads.tables.limited.definitions in
       let last : Last (parent_of W l) d l.members k = rw ek (h.members.first d (omega arith)) in (
         ap (λ r. map (member_import c e) (select is_kept r))
             (rest_first (parent_of W l) (member_of W l) last ∙ keyed_rows (λ (x : Member). x.parent)
@@ -272,7 +272,7 @@ module _ {W A : List ℕ} {l : Layout} {c : ℕ} {e : Scope} (h : Listed W A l c
           bits = f.bits;
         })
 
-    pub kept_next : {next : ℕ} → next ≡ get_or A (10816 + (k - 1)) 0
+    pub kept_next : {next : ℕ} → next ≡ get_or A (member_links_base l + (k - 1)) 0
         → Parts (kept_at W l c e k) (kept_imports c e (member_at W x ∷ [])) (kept_at W l c e next) × (next < k)
     kept_next {next} en =
         let last : Last (parent_of W l) (parent_of W l (k - 1)) (k - 1) next = rw en (h.members.next (k - 1) (omega arith)) in
@@ -302,11 +302,11 @@ unfolding imports_in
 imports_end W A l n c k z = ap (imports_in (snap_of W A l) c) (rest_none (owner_of W A n) _ k z)
 
 module _ {W A : List ℕ} {l : Layout} {n : ℕ} (th : Threaded W A l n) where
-  pub imports_first : (c : ℕ) {m k : ℕ} → m < 512 → k ≡ get_or A (6208 + m) 0
+  pub imports_first : (c : ℕ) {m k : ℕ} → m < 512 → k ≡ get_or A (heads_room + m) 0
       → (imports_at W A l n c k ≡ imports_in (snap_of W A l) c (entries_of (snap_of W A l) m)) × (k ≤ n)
   imports_first c small e = let q = thread_of th small e in (ap (imports_in (snap_of W A l) c) q.0, q.1)
 
-  module _ (c : ℕ) {k : ℕ} (within : k ≤ n) (some : 0 < k) {entry : ℕ} (e : entry ≡ get_or A (4160 + (n - k)) 0) where
+  module _ (c : ℕ) {k : ℕ} (within : k ≤ n) (some : 0 < k) {entry : ℕ} (e : entry ≡ get_or A (entries_room + (n - k)) 0) where
     pub entry_listed : c < l.crates → Listed W A l c (scope_at W entry)
     entry_listed o = record {
       ready = th.ready;
@@ -316,7 +316,7 @@ module _ {W A : List ℕ} {l : Layout} {n : ℕ} (th : Threaded W A l n) where
           (thread_fits th within some);
     }
 
-    pub imports_next : {next : ℕ} → next ≡ get_or A (6720 + (k - 1)) 0
+    pub imports_next : {next : ℕ} → next ≡ get_or A (spare_room + (k - 1)) 0
         → Parts (imports_at W A l n c k) (imports_of (snap_of W A l) c (scope_at W entry)) (imports_at W A l n c next) × (next < k)
     unfolding imports_in
     imports_next {next} en =

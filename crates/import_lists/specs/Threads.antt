@@ -1,15 +1,23 @@
 -- Entries by module and members by parent, as threads in the work area. Only contracts of inner functions and proofs cite it.
 use Rattle.std.specs.Prelude.{ℕ, zero, suc, ◌+◌, ◌-◌, ◌*◌, ◌≤◌, ◌<◌, ◌≡◌, List, [], ◌∷◌, Bool, true, false, eqb, length, get_or}
-use Rattle.snapshot.specs.Limits.{module_limit, definition_limit}
+use Rattle.snapshot.specs.Limits.{module_limit}
 use Rattle.snapshot.specs.Sizes.{member_size}
 use Rattle.snapshot.specs.Records.{Snapshot, Scope, Member, scope_at, member_at}
 use Rattle.snapshot.specs.Layouts.{member_base, snap_of}
 use Rattle.snapshot.specs.declared.layout.Layout.{Layout}
 use Rattle.chains.specs.Chains.{ChainedBy}
 use Rattle.hir_def.specs.Finds.{select}
-use Rattle.import_order.specs.Rooms.{entries_room, heads_room, spare_room, member_heads_room, member_links_room}
+use Rattle.import_order.specs.Rooms.{entries_room, heads_room, spare_room}
 use Rattle.import_rules.specs.Collect.{entry_before, sort_into}
 use Rattle.import_order.specs.Lists.{entries_at, Runs, Ready}
+
+-- the first words of the heads of the members' threads, a word a definition, and of their links: they follow the links of the entries
+
+abbrev pub member_heads_base : Layout → ℕ
+member_heads_base l = spare_room + l.scopes
+
+abbrev pub member_links_base : Layout → ℕ
+member_links_base l = member_heads_base l + l.definitions
 
 -- of the things numbered below n those with a key, the last first
 unfoldable pub keyed : {A : Type 0} → (ℕ → ℕ) → ℕ → (ℕ → A) → ℕ → List A
@@ -27,7 +35,7 @@ is_public e = eqb e.visibility 0
 abbrev pub public_in : Snapshot → List Scope
 public_in s = sort_into (entry_before s) [] (select is_public s.scopes)
 
--- the entry of a number: n of them stand from word 4,160 on, and the last has the number 0
+-- the entry of a number: n of them stand in their room, and the last has the number 0
 abbrev pub entry_of : List ℕ → List ℕ → ℕ → ℕ → Scope
 entry_of W A n j = scope_at W (get_or A (entries_room + (n - 1 - j)) 0)
 
@@ -53,4 +61,4 @@ pub record Threaded (W A : List ℕ) (l : Layout) (n : ℕ) : Type 0 where
   pub few : n ≤ l.scopes
   pub list : entries_at W A entries_room n ≡ public_in (snap_of W A l)
   pub entries : ChainedBy module_limit A heads_room spare_room (λ j. (entry_of W A n j).owner) n
-  pub members : ChainedBy definition_limit A member_heads_room member_links_room (λ j. (member_of W l j).parent) l.members
+  pub members : ChainedBy l.definitions A (member_heads_base l) (member_links_base l) (λ j. (member_of W l j).parent) l.members

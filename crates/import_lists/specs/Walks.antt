@@ -6,15 +6,14 @@ use Rattle.snapshot.specs.Layouts.{snap_of}
 use Rattle.snapshot.specs.declared.layout.Layout.{Layout}
 use Rattle.chains.specs.Chains.{Marked}
 use Rattle.accept.specs.Valid.{Each}
-use Rattle.import_order.specs.Rooms.{member_links_room}
 use Rattle.import_rules.specs.Collect.{visits, modules_from}
 use Rattle.import_order.specs.Lists.{waiting}
 use Rattle.import_lists.specs.declared.walk.Turn.{Turn}
-use Rattle.import_lists.specs.Threads.{Threaded}
+use Rattle.import_lists.specs.Threads.{member_links_base, Threaded}
 
 -- the first words of the marks of the modules that were visited, of these in order, and of the pile
 abbrev pub marks_base : Layout → ℕ
-marks_base l = member_links_room + l.members
+marks_base l = member_links_base l + l.members
 
 abbrev pub order_base : Layout → ℕ
 order_base l = marks_base l + module_limit

@@ -9,10 +9,9 @@ use Rattle.chains.specs.Chains.{ChainedBy}
 use Rattle.record_rules.specs.Stands.{counts_in}
 use Rattle.accept.specs.Valid.{ScopeFits}
 use Rattle.hir_def.specs.Finds.{select}
-use Rattle.import_order.specs.Rooms.{member_heads_room, member_links_room}
 use Rattle.import_rules.specs.Collect.{is_member_of, member_import, words_of}
 use Rattle.import_order.specs.Lists.{Ready}
-use Rattle.import_lists.specs.Threads.{member_of}
+use Rattle.import_lists.specs.Threads.{member_heads_base, member_links_base, member_of}
 use Rattle.import_lists.specs.declared.write.NewImport.{NewImport}
 
 -- a new import has no place yet
@@ -60,6 +59,6 @@ members_of s c e = map (member_import c e) (select (is_member_of e.definition) s
 -- an entry of a crate's list, and the members threaded by parent
 pub record Listed (W A : List ℕ) (l : Layout) (c : ℕ) (e : Scope) : Type 0 where
   pub ready : Ready W A l
-  pub members : ChainedBy definition_limit A member_heads_room member_links_room (λ j. (member_of W l j).parent) l.members
+  pub members : ChainedBy l.definitions A (member_heads_base l) (member_links_base l) (λ j. (member_of W l j).parent) l.members
   pub owner : c < l.crates
   pub fits : ScopeFits (counts_in l) e

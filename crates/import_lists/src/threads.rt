@@ -1,18 +1,35 @@
 //! The public entries of all modules in order, threaded by module, and the members threaded by parent.
 ghost use Rattle.std.specs.Prelude.{◌≡◌, ℕ, ◌+◌, ◌*◌, ◌-◌, ◌≤◌, ◌<◌, length, get_or};
-ghost use Rattle.snapshot.specs.Limits.{word_limit, module_limit, definition_limit, area_limit};
+ghost use Rattle.snapshot.specs.Limits.{word_limit, module_limit, area_limit};
 ghost use Rattle.snapshot.specs.Layouts.{word_count};
-ghost use Rattle.import_order.specs.Rooms.{entries_room, heads_room, spare_room, member_heads_room, member_links_room};
+ghost use Rattle.import_order.specs.Rooms.{entries_room, heads_room, spare_room};
 ghost use Rattle.import_order.specs.Lists.{Ready};
-ghost use Rattle.import_lists.specs.Threads.{entry_of, member_of, Gathered, Threads, Threaded};
+ghost use Rattle.import_lists.specs.Threads.{member_heads_base, member_links_base, entry_of, member_of, Gathered, Threads, Threaded};
 
 use chains::chain::{clear, link};
 use import_order::sort::{Lists, sort};
 use snapshot::ids::Area;
 use snapshot::kind::Size;
+use snapshot::layout::Layout;
 use snapshot::record::{member_parent, scope_owner, scope_visibility};
 use snapshot::records::Records;
 use snapshot::words::word;
+
+/// The first word of the heads of the members' threads, a word a definition.
+pub fn member_heads_base(l: Layout) -> usize
+    requires { l.scopes ≤ word_limit }
+    ensures { result ≡ member_heads_base l }
+{
+    Lists::SPARE + l.scopes
+}
+
+/// The first word of the links of the members' threads.
+pub fn member_links_base(l: Layout) -> usize
+    requires { l.scopes + l.definitions ≤ word_limit }
+    ensures { result ≡ member_links_base l }
+{
+    member_heads_base(l) + l.definitions
+}
 
 // Leaves the heads of the public entries of all modules in the work area, in record order, and answers how many there are.
 // By the number of the visibility, 0 for public, as the definition tests it: a `match` on a `Visibility`, with an arm and a rest, would be no plainer.
@@ -53,17 +70,19 @@ fn thread_entries(words: &[u32], area: &mut Area, n: usize)
 
 // Threads the members by parent, the last first.
 fn thread_members(records: &Records, area: &mut Area)
-    requires area_len { (member_links_room + records.now.layout.members ≤ area_limit) × (word_count records.now.layout ≤ word_limit) }
-    requires by_index { ((b : ℕ) → b < definition_limit → get_or area.old (member_heads_room + b) 0 ≡ 0)
-        × ((j : ℕ) → j < records.now.layout.members → (member_of records.now.words.now records.now.layout j).parent < definition_limit) }
-    ensures { Threads definition_limit member_heads_room member_links_room (λ j. (member_of records.now.words.now records.now.layout j).parent)
-        records.now.layout.members area.old area.new }
+    requires area_len { (member_links_base records.now.layout + records.now.layout.members ≤ area_limit) × (word_count records.now.layout ≤ word_limit) }
+    requires by_index { ((b : ℕ) → b < records.now.layout.definitions → get_or area.old (member_heads_base records.now.layout + b) 0 ≡ 0)
+        × ((j : ℕ) → j < records.now.layout.members → (member_of records.now.words.now records.now.layout j).parent < records.now.layout.definitions) }
+    ensures { Threads records.now.layout.definitions (member_heads_base records.now.layout) (member_links_base records.now.layout)
+        (λ j. (member_of records.now.words.now records.now.layout j).parent) records.now.layout.members area.old area.new }
 {
     let base = records.layout.member_base();
+    let heads = member_heads_base(records.layout);
+    let links = member_links_base(records.layout);
     let count = records.layout.members;
     for j in 0..count {
         let d = member_parent(records.words, base + Size::MEMBER * (count - 1 - j));
-        link(area, Lists::MEMBER_HEADS, Lists::MEMBER_LINKS, d.0, j);
+        link(area, heads, links, d.0, j);
     }
 }
 
@@ -75,7 +94,7 @@ pub fn thread(records: &Records, area: &mut Area) -> usize
 {
     let n = gather(records, area);
     sort(records, area, Lists::ENTRIES, n);
-    clear(area, Lists::HEADS, Lists::MEMBER_LINKS);
+    clear(area, Lists::HEADS, member_links_base(records.layout));
     thread_entries(records.words, area, n);
     thread_members(records, area);
     n

@@ -9,6 +9,7 @@ ghost use Rattle.import_rules.specs.Collect.{entries_of, piled};
 ghost use Rattle.import_lists.specs.Threads.{Threaded};
 ghost use Rattle.import_lists.specs.Walks.{marks_base, order_base, pile_base, pile_at, Pushed, Walking, Turned, Walked};
 
+use crate::threads::member_links_base;
 use accept::opened::Snapshot;
 use chains::chain::clear;
 use hir_def::items::{first_of, known_kind_of};
@@ -29,15 +30,15 @@ pub struct Turn {
 
 // The first word of the marks of the modules that were visited.
 fn marks_base(l: Layout) -> usize
-    requires { l.members ≤ word_limit }
+    requires { l.scopes + l.definitions + l.members ≤ word_limit }
     ensures { result ≡ marks_base l }
 {
-    Lists::MEMBER_LINKS + l.members
+    member_links_base(l) + l.members
 }
 
 /// The first word of these modules, in order.
 pub fn order_base(l: Layout) -> usize
-    requires { l.members ≤ word_limit }
+    requires { l.scopes + l.definitions + l.members ≤ word_limit }
     ensures { result ≡ order_base l }
 {
     marks_base(l) + ModuleId::LIMIT
@@ -45,7 +46,7 @@ pub fn order_base(l: Layout) -> usize
 
 // The first word of the modules that wait, the last to be taken first.
 fn pile_base(l: Layout) -> usize
-    requires { (l.members ≤ word_limit) × (l.scopes ≤ word_limit) }
+    requires { l.scopes + l.definitions + l.members ≤ word_limit }
     ensures { result ≡ pile_base l }
 {
     order_base(l) + l.scopes + 1

@@ -13,6 +13,7 @@ ghost use Rattle.import_lists.specs.Threads.{Threaded};
 ghost use Rattle.import_lists.specs.Walks.{order_at};
 ghost use Rattle.import_lists.specs.Writes.{import_of, Bounded, Space, Wrote, kept_imports, members_of, Listed};
 
+use crate::threads::{member_heads_base, member_links_base};
 use crate::walk::order_base;
 use accept::opened::Snapshot;
 use import_order::sort::Lists;
@@ -109,11 +110,12 @@ fn put_members(
     let d = scope_definition(db.records.words, entry);
     let base = db.records.layout.member_base();
     let mut t = at;
-    let mut k = word(db.area, Lists::MEMBER_HEADS + d.0);
+    let links = member_links_base(db.records.layout);
+    let mut k = word(db.area, member_heads_base(db.records.layout) + d.0);
     while k != 0 {
         let member = base + Size::MEMBER * (db.records.layout.members - k);
         t = put_member(db.records.words, target, t, write, c, entry, member);
-        k = word(db.area, Lists::MEMBER_LINKS + (k - 1));
+        k = word(db.area, links + (k - 1));
     }
     t
 }

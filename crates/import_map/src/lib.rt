@@ -9,13 +9,15 @@ ghost use Rattle.snapshot.specs.Laid.{snap_by};
 ghost use Rattle.hir_def.specs.ImportMap.{is_import, is_hidden, is_unstable};
 ghost use Rattle.hir_def.specs.Entries.{NextOf};
 
-use hir_def::finds::next_where;
+use accept::opened::Snapshot;
+use hir_def::finds::next_within;
 use hir_def::items::item_of;
-use hir_def::spans::imports;
+use hir_def::spans::{imports, part_of};
 use hir_def::{Item, Place};
 use snapshot::ids::Crate;
 use snapshot::record::{import_bits, import_definition, import_ns, import_owner};
 use snapshot::records::Records;
+use snapshot::table::Tables;
 
 // Whether the import with its head at a place is one of the crate's, of the item.
 // An import's owner is a crate and an entry's a module, at other offsets: `item_scope::is_for` has this shape over other readers.
@@ -31,12 +33,13 @@ fn is_import(records: &Records, h: usize, c: Crate, item: Item) -> bool
 }
 
 /// The next of the crate's imports of the item, from the import number k on.
-pub fn import_info_for(records: &Records, k: usize, c: Crate, item: Item) -> Option<Place>
-    ensures { (A : List ℕ) → NextOf (is_import (snap_by records.now A) c.0 item) import_at import_size
-        records.now.words.now (import_base records.now.layout) records.now.layout.imports k result }
+pub fn import_info_for(db: &Snapshot, k: usize, c: Crate, item: Item) -> Option<Place>
+    ensures { (A : List ℕ) → NextOf (is_import (snap_by db.now.records A) c.0 item) import_at import_size
+        db.now.records.words.now (import_base db.now.records.layout) db.now.records.layout.imports k result }
 {
-    let test = |h| is_import(records, h, c, item);
-    next_where(imports(records), k, test)
+    let test = |h| is_import(&db.records, h, c, item);
+    let part = part_of(db, Tables::IMPORTS, c);
+    next_within(imports(&db.records), k, part.low, part.high, test)
 }
 
 /// Whether the import with its head at a place is hidden.

@@ -18,7 +18,7 @@ use Rattle.accept.proofs.Accepted.{by_test}
 use Rattle.accept.proofs.Stable.{snap_stays, reads_stay}
 use Rattle.import_rules.specs.Collect.{entry_before, insert_by, sort_into}
 use Rattle.import_order.specs.Lists.{order_of, entries_at, merge_by, Copied, Runs, Ready, Merges, Sorts}
-use Rattle.import_order.specs.Rooms.{spare_room}
+use Rattle.import_order.specs.Rooms.{entries_room, heads_room, spare_room}
 use Rattle.import_order.proofs.Orders.{entry_order}
 use Rattle.import_order.proofs.Sorts.{merge_second, merge_first, merge_none, sorted_merge}
 
@@ -69,13 +69,13 @@ pub record Merging (W : List ℕ) (before : Scope → Scope → Bool) (whole : L
   pub second : j ≤ n
   pub frame : Runs A B from (from + m + n)
   pub left : whole ≡ entries_at W B from (i + j)
-      ++ merge_by before (rows (λ k. scope_at W (get_or B (6720 + k) 0)) i (m - i)) (rows (λ k. scope_at W (get_or B (from + m + k) 0)) j (n - j))
+      ++ merge_by before (rows (λ k. scope_at W (get_or B (spare_room + k) 0)) i (m - i)) (rows (λ k. scope_at W (get_or B (from + m + k) 0)) j (n - j))
 
 pub runs_none : (A : List ℕ) (from to : ℕ) → Runs A A from to
 runs_none A from to = record { size = refl; below = λ i h. refl; above = λ i h g. refl }
 
 pub merging_start : (W B : List ℕ) (before : Scope → Scope → Bool) (from m n : ℕ)
-    → Merging W before (merge_by before (entries_at W B 6720 m) (entries_at W B (from + m) n)) B B from m n 0 0
+    → Merging W before (merge_by before (entries_at W B spare_room m) (entries_at W B (from + m) n)) B B from m n 0 0
 unfolding rows
 merging_start W B before from m n =
     record {
@@ -94,10 +94,10 @@ runs_set A B from to i v r p q =
     }
 
 module _ (W : List ℕ) (before : Scope → Scope → Bool) (whole : List Scope) (A B : List ℕ) (from m n i j : ℕ) (size : length B ≡ 16384)
-    (fits : from + m + n ≤ 6208) (some : i < m) (g : Merging W before whole A B from m n i j)
+    (fits : from + m + n ≤ heads_room) (some : i < m) (g : Merging W before whole A B from m n i j)
   where
     abbrev pub firsts : List ℕ → ℕ → Scope
-    firsts X k = scope_at W (get_or X (6720 + k) 0)
+    firsts X k = scope_at W (get_or X (spare_room + k) 0)
 
     abbrev pub seconds : List ℕ → ℕ → Scope
     seconds X k = scope_at W (get_or X (from + m + k) 0)
@@ -115,7 +115,7 @@ module _ (W : List ℕ) (before : Scope → Scope → Bool) (whole : List Scope)
 
     firsts_stay : (v k c : ℕ) → rows (firsts B) k c ≡ rows (firsts (stored v)) k c
     firsts_stay v k c = let s = g.second in rows_from _ _ k c
-        (λ q p u. ap (scope_at W) (sym (get_or-set_other B (from + i + j) (6720 + q) v 0 (λ e. omega arith))))
+        (λ q p u. ap (scope_at W) (sym (get_or-set_other B (from + i + j) (spare_room + q) v 0 (λ e. omega arith))))
 
     seconds_stay : (v k c : ℕ) → j ≤ k → rows (seconds B) k c ≡ rows (seconds (stored v)) k c
     seconds_stay v k c h = rows_from _ _ k c (λ q p u. ap (scope_at W) (sym (get_or-set_other B (from + i + j) (from + m + q) v 0 (λ e. omega arith))))
@@ -143,7 +143,7 @@ module _ (W : List ℕ) (before : Scope → Scope → Bool) (whole : List Scope)
               (seconds_stay v (j + 1) (n - (j + 1)) (omega arith)))));
         }
 
-    merging_first : (v : ℕ) → (ltb j n && before (seconds B j) (firsts B i)) ≡ false → v ≡ get_or B (6720 + i) 0
+    merging_first : (v : ℕ) → (ltb j n && before (seconds B j) (firsts B i)) ≡ false → v ≡ get_or B (spare_room + i) 0
         → Merging W before whole A (set B (from + i + j) v) from m n (i + 1) j
     merging_first v t e =
         let s = g.second in
@@ -197,7 +197,7 @@ module _ (W : List ℕ) (before : Scope → Scope → Bool) (whole : List Scope)
           (λ h. merging_second v (ltb-true j n h) (sym (ap (λ x. x && before (seconds B j) (firsts B i)) h) ∙ sym test ∙ t) u)
           (λ h. absurd (true≢false (sym t ∙ test ∙ ap (λ x. x && before (seconds B j) (firsts B i)) h)))
 
-      pub merging_no : r ≡ false → (v : ℕ) → v ≡ get_or B (6720 + i) 0 → Merging W before whole A (set B (from + i + j) v) from m n (i + 1) j
+      pub merging_no : r ≡ false → (v : ℕ) → v ≡ get_or B (spare_room + i) 0 → Merging W before whole A (set B (from + i + j) v) from m n (i + 1) j
       merging_no t v u = merging_first v (sym test ∙ t) u
 
 merging_done : (W : List ℕ) (before : Scope → Scope → Bool) (whole : List Scope) (A B : List ℕ) (from m n i j : ℕ) → m ≤ i
@@ -209,7 +209,7 @@ merging_done W before whole A B from m n i j h g =
     let e : i ≡ m = omega arith in
     let u : m + n ≡ i + j + (n - j) = omega arith in
     sym (g.left ∙ ap (λ r. entries_at W B from (i + j) ++ merge_by before r (rows (λ k. scope_at W (get_or B (from + m + k) 0)) j (n - j)))
-    (rows_none (λ k. scope_at W (get_or B (6720 + k) 0)) i m h)
+    (rows_none (λ k. scope_at W (get_or B (spare_room + k) 0)) i m h)
     ∙ ap (λ r. entries_at W B from (i + j) ++ r)
     (rows_shift (λ k. scope_at W (get_or B (from + m + k) 0)) j (n - j)
     ∙ rows_ext _ _ (n - j) (λ k r. let z : from + m + (j + k) ≡ from + (i + j + k) = omega arith in ap (λ x. scope_at W (get_or B x 0)) z))
@@ -217,7 +217,7 @@ merging_done W before whole A B from m n i j h g =
 
 -- the words of the tables stay
 module _ {W A B : List ℕ} {l : Layout} (r : Ready W A l) where
-  module _ {from to : ℕ} (f : Runs A B from to) (high : 4160 ≤ from) where
+  module _ {from to : ℕ} (f : Runs A B from to) (high : entries_room ≤ from) where
     pub runs_ready : Ready W B l
     runs_ready = record { reads = reads_stay W A B l r.reads (λ i u v. f.below i (omega arith)); size = f.size ∙ r.size }
 
@@ -232,8 +232,8 @@ module _ {W A B : List ℕ} {l : Layout} (r : Ready W A l) where
     copied_order = ap entry_before (snap_stays W A B l r.reads.tables (λ i u v. c.below i (omega arith)))
 
 -- the whole of a merge, from the area before the copy
-pub merged : {W A B C : List ℕ} {l : Layout} {from m n i j : ℕ} → Ready W A l → from + m + n ≤ 6208 → m ≤ i → Copied A B from m
-    → Merging W (order_of W B l) (merge_by (order_of W B l) (entries_at W B 6720 m) (entries_at W B (from + m) n)) B C from m n i j
+pub merged : {W A B C : List ℕ} {l : Layout} {from m n i j : ℕ} → Ready W A l → from + m + n ≤ heads_room → m ≤ i → Copied A B from m
+    → Merging W (order_of W B l) (merge_by (order_of W B l) (entries_at W B spare_room m) (entries_at W B (from + m) n)) B C from m n i j
     → Merges W A l C from m n
 merged {W} {A} {B} {C} {l} {from} {m} {n} {i} {j} r fits h c g =
     record {
@@ -244,7 +244,7 @@ merged {W} {A} {B} {C} {l} {from} {m} {n} {i} {j} r fits h c g =
             above = λ k p q. g.frame.above k p q ∙ c.below k q;
           };
       same =
-          merging_done W (order_of W B l) (merge_by (order_of W B l) (entries_at W B 6720 m) (entries_at W B (from + m) n)) B C from m n i j h g
+          merging_done W (order_of W B l) (merge_by (order_of W B l) (entries_at W B spare_room m) (entries_at W B (from + m) n)) B C from m n i j h g
           ∙ ap₂ (merge_by (order_of W B l)) (rows_ext _ _ m (λ k p. ap (scope_at W) (c.there k p)))
           (rows_ext _ _ n (λ k p. ap (scope_at W) (c.below (from + m + k) (omega arith))))
           ∙ ap (λ b. merge_by b (entries_at W A from m) (entries_at W A (from + m) n)) (copied_order r c);
@@ -262,7 +262,7 @@ pub sorts_few : (W A : List ℕ) (l : Layout) (from n : ℕ) → n < 2 → Sorts
 sorts_few W A l from n h = record { frame = runs_none A from (from + n); same = few n h W A (order_of W A l) from }
 
 -- a first run sorted, then a second, then both merged
-pub sorts_halves : {W A B C D : List ℕ} {l : Layout} {from m n : ℕ} (total : ℕ) → Ready W A l → 4160 ≤ from → from + m + n ≤ 6208 → m + n ≡ total
+pub sorts_halves : {W A B C D : List ℕ} {l : Layout} {from m n : ℕ} (total : ℕ) → Ready W A l → entries_room ≤ from → from + m + n ≤ heads_room → m + n ≡ total
     → Sorts W A l B from m → Sorts W B l C (from + m) n → Merges W C l D from m n → Sorts W A l D from total
 sorts_halves {W} {A} {B} {C} {D} {l} {from} {m} {n} total r high fits q s₁ s₂ g =
     let f₁ = s₁.frame in

@@ -7,8 +7,10 @@ ghost use Rattle.import_order.specs.Lists.{order_of, Copied, Ready, Merges, Sort
 
 use crate::entries::entry_before;
 use accept::opened::Snapshot;
-use snapshot::ids::Area;
+use snapshot::ids::{Area, ModuleId, WordCount};
+use snapshot::kind::Size;
 use snapshot::records::Records;
+use snapshot::table::Tables;
 use snapshot::words::word;
 
 /// The first words of the lists in the work area, past the tables.
@@ -16,19 +18,13 @@ pub struct Lists;
 
 impl Lists {
     /// The heads of entries.
-    pub const ENTRIES: usize = 4160;
+    pub const ENTRIES: usize = Tables::END;
 
     /// The heads of the entries' threads, a word a module.
-    pub const HEADS: usize = 6208;
+    pub const HEADS: usize = Lists::ENTRIES + WordCount::SNAPSHOT / Size::SCOPE;
 
-    /// As many words as there can be entries, for merging, and then for the links of their threads.
-    pub const SPARE: usize = 6720;
-
-    /// The heads of the members' threads, a word a definition.
-    pub const MEMBER_HEADS: usize = 8768;
-
-    /// The links of the members' threads.
-    pub const MEMBER_LINKS: usize = 10816;
+    /// As many words as there are entries, for merging, and then for the links of their threads.
+    pub const SPARE: usize = Lists::HEADS + ModuleId::LIMIT;
 }
 
 // Copies words from a place on to the spare ones.

@@ -19,6 +19,7 @@ use Rattle.accept.proofs.Stable.{snap_stays}
 use Rattle.answer.specs.Answers.{zeros}
 use Rattle.answer.proofs.Areas.{area_small, area_large}
 use Rattle.import_rules.specs.Collect.{modules_from, imports_over, collected, words_of}
+use Rattle.import_order.specs.Rooms.{entries_room}
 use Rattle.import_order.specs.Lists.{Ready}
 use Rattle.import_words.proofs.Taken.{words_length}
 use Rattle.import_lists.specs.Threads.{Threaded}
@@ -49,7 +50,7 @@ module _ (c room : ℕ) (s : Snapshot) where
     target_long h = rw (list_in, lt-ltb _ _ known, le-leb _ _ h)
 
 -- the modules in order, listed over the tables as they then are, are the crate's list
-module _ {W A B C : List ℕ} {l : Layout} {n c k : ℕ} (r : Ready W A l) (t : Threaded W B l n) (low : (i : ℕ) → i < 4160
+module _ {W A B C : List ℕ} {l : Layout} {n c k : ℕ} (r : Ready W A l) (t : Threaded W B l n) (low : (i : ℕ) → i < entries_room
     → get_or B i 0 ≡ get_or A i 0) (w : Walked W B l c C k) where
   snap_walked : snap_of W C l ≡ snap_of W B l
   snap_walked = snap_stays W B C l t.ready.reads.tables (λ i a b. w.below i (omega arith))
@@ -78,7 +79,7 @@ pub stored_front : (ws T : List ℕ) → length ws ≤ length T → sets T 0 ws 
 stored_front ws T h = let q : 0 + length ws ≤ length T = omega arith in sets-eq ws T 0 q ∙ ap (λ n. ws ++ drop n T) (zero-add (length ws))
 
 module _ {W A B C : List ℕ} {l : Layout} {n c k count : ℕ} (r : Ready W A l) (known : c < l.crates) (t : Threaded W B l n)
-    (low : (i : ℕ) → i < 4160 → get_or B i 0 ≡ get_or A i 0) (w : Walked W B l c C k)
+    (low : (i : ℕ) → i < entries_room → get_or B i 0 ≡ get_or A i 0) (w : Walked W B l c C k)
     (e : count ≡ 0 + import_size * length (imports_over (snap_of W C l) c (order_at C l k)))
   where
     in_crates : c < length (snap_of W A l).crates

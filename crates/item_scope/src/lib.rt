@@ -3,18 +3,23 @@
 //! each clause.
 #![tactic(auto)]
 
-ghost use Rattle.std.specs.Prelude.{◌≡◌, List, Bool, true, false, ◌&&◌, ℕ, ◌+◌, ◌*◌, ◌<◌};
+ghost use Rattle.std.specs.Prelude.{◌≡◌, List, Bool, true, false, ◌&&◌, ℕ, ◌+◌, ◌*◌, ◌<◌, ◌≤◌};
 ghost use Rattle.snapshot.specs.Sizes.{scope_size};
 ghost use Rattle.snapshot.specs.Records.{Scope, scope_at};
 ghost use Rattle.snapshot.specs.Layouts.{scope_base, records_of};
 ghost use Rattle.snapshot.specs.Laid.{snap_by};
+ghost use Rattle.record_index.specs.Index.{Follows};
 ghost use Rattle.hir_def.specs.ItemScope.{is_declared, is_deprecated, is_fresh, counts, is_for, is_named, is_module_entry, name_of, names_of, name_reads, names_reads};
 ghost use Rattle.hir_def.specs.ItemScope.{preferred, preferred_reads, get as entry_named};
 ghost use Rattle.hir_def.specs.Finds.{first_of, reads_of, or_first};
 ghost use Rattle.hir_def.specs.Nameres.{entry_in};
 ghost use Rattle.hir_def.specs.Entries.{entry_of, UpTo, NextOf};
 
-use hir_def::finds::{first_where, next_where};
+pub mod chain;
+
+use crate::chain::next_in_scope;
+use accept::opened::Snapshot;
+use hir_def::finds::next_where;
 use hir_def::items::{item_at, known_kind_of};
 use hir_def::spans::scopes;
 use hir_def::{Item, Lookup, Place, Span};
@@ -72,32 +77,32 @@ fn is_fresh(records: &Records, h: usize, m: ModuleId, item: Item, declared: bool
     is_entry(records, h, m, item, declared) && !is_deprecated(records.words, h)
 }
 
-/// The first of the module's entries for the item; of those declared there, where only such entries count. Counts the records that it reads.
-pub fn names_of(records: &Records, m: ModuleId, item: Item, declared: bool) -> Lookup
-    ensures { ((A : List ℕ) → entry_of scope_at records.now.words.now result.entry ≡ names_of (snap_by records.now A)
-        m.0 item (counts declared)) × ((A : List ℕ) → result.read ≡ names_reads (snap_by records.now A) m.0 item (counts declared))
-        × UpTo 8 (scope_base records.now.layout) records.now.layout.scopes result.entry result.read }
+/// The first of the module's entries for the item; of those declared there, where only such entries count. Counts the records up to it.
+pub fn names_of(db: &Snapshot, m: ModuleId, item: Item, declared: bool) -> Lookup
+    ensures { ((A : List ℕ) → entry_of scope_at db.now.records.words.now result.entry ≡ names_of (snap_by db.now.records A)
+        m.0 item (counts declared)) × ((A : List ℕ) → result.read ≡ names_reads (snap_by db.now.records A) m.0 item (counts declared))
+        × UpTo 8 (scope_base db.now.records.layout) db.now.records.layout.scopes result.entry result.read }
 {
-    let test = |h| is_entry(records, h, m, item, declared);
-    match next_where(scopes(records), 0, test) {
+    let test = |h| is_entry(&db.records, h, m, item, declared);
+    match next_in_scope(db, m, 0, test) {
         Some(found) => Lookup {
             entry: Some(found.head),
             read: found.number + 1,
         },
         None => Lookup {
             entry: None,
-            read: records.layout.scopes,
+            read: db.records.layout.scopes,
         },
     }
 }
 
 /// The first of the module's entries for the item.
-pub fn name_of(records: &Records, m: ModuleId, item: Item) -> Lookup
-    ensures { ((A : List ℕ) → entry_of scope_at records.now.words.now result.entry ≡ name_of (snap_by records.now A) m.0 item)
-        × ((A : List ℕ) → result.read ≡ name_reads (snap_by records.now A) m.0 item)
-        × UpTo 8 (scope_base records.now.layout) records.now.layout.scopes result.entry result.read }
+pub fn name_of(db: &Snapshot, m: ModuleId, item: Item) -> Lookup
+    ensures { ((A : List ℕ) → entry_of scope_at db.now.records.words.now result.entry ≡ name_of (snap_by db.now.records A) m.0 item)
+        × ((A : List ℕ) → result.read ≡ name_reads (snap_by db.now.records A) m.0 item)
+        × UpTo 8 (scope_base db.now.records.layout) db.now.records.layout.scopes result.entry result.read }
 {
-    names_of(records, m, item, false)
+    names_of(db, m, item, false)
 }
 
 /// The first entry of a span that passes the second test, which passes no more than the first; where there is none, the first that passes the
@@ -141,15 +146,15 @@ pub fn fresh_of(records: &Records, m: ModuleId, item: Item, declared: bool) -> L
 }
 
 /// The entry of `names_of`; by options bit 32 that of `fresh_of`.
-pub fn entry_in(records: &Records, m: ModuleId, item: Item, declared: bool, fresh: bool) -> Lookup
-    ensures { ((A : List ℕ) → entry_of scope_at records.now.words.now result.entry ≡ entry_in (snap_by records.now A)
-        item declared fresh m.0) × ((A : List ℕ) → result.read ≡ preferred_reads fresh (snap_by records.now A) m.0 item
-        (counts declared) (names_reads (snap_by records.now A) m.0 item (counts declared))) }
+pub fn entry_in(db: &Snapshot, m: ModuleId, item: Item, declared: bool, fresh: bool) -> Lookup
+    ensures { ((A : List ℕ) → entry_of scope_at db.now.records.words.now result.entry ≡ entry_in (snap_by db.now.records A)
+        item declared fresh m.0) × ((A : List ℕ) → result.read ≡ preferred_reads fresh (snap_by db.now.records A) m.0 item
+        (counts declared) (names_reads (snap_by db.now.records A) m.0 item (counts declared))) }
 {
     if fresh {
-        return fresh_of(records, m, item, declared);
+        return fresh_of(&db.records, m, item, declared);
     }
-    names_of(records, m, item, declared)
+    names_of(db, m, item, declared)
 }
 
 /// Whether the entry with its head at a place is the module's with that namespace and name.
@@ -161,12 +166,13 @@ pub fn is_named(words: &[u32], h: usize, m: ModuleId, ns: usize, name: Name) -> 
 }
 
 /// The module's entry with that namespace and name.
-// What is left of a search among the records of a kind is the call of `first_where` with a test; so in the other searches.
-pub fn get(records: &Records, m: ModuleId, ns: usize, name: Name) -> Option<usize>
-    ensures { (A : List ℕ) → entry_of scope_at records.now.words.now result ≡ entry_named (snap_by records.now A) m.0 ns name.0 }
+// What is left of a search in a scope is the call of `next_in_scope` with a test.
+pub fn get(db: &Snapshot, m: ModuleId, ns: usize, name: Name) -> Option<usize>
+    ensures { (A : List ℕ) → entry_of scope_at db.now.records.words.now result ≡ entry_named (snap_by db.now.records A) m.0 ns name.0 }
 {
-    let test = |h| is_named(records.words, h, m, ns, name);
-    first_where(scopes(records), test)
+    let test = |h| is_named(db.records.words, h, m, ns, name);
+    let found = next_in_scope(db, m, 0, test)?;
+    Some(found.head)
 }
 
 /// Whether the entry with its head at a place is the module's, for a module in types.
@@ -180,11 +186,12 @@ pub fn is_module_entry(records: &Records, h: usize, m: ModuleId) -> bool
     (scope_ns(records.words, h) == Namespace::TYPES) & (kind == Some(DefinitionKind::Module))
 }
 
-/// The next of the module's entries for a module in types, from the entry number k on.
-pub fn modules_in_scope(records: &Records, k: usize, m: ModuleId) -> Option<Place>
-    ensures { (A : List ℕ) → NextOf (is_module_entry (snap_by records.now A) m.0) scope_at scope_size
-        records.now.words.now (scope_base records.now.layout) records.now.layout.scopes k result }
+/// The next of the module's entries for a module in types, from the entry number k on, where k is 0 or follows one of its entries.
+pub fn modules_in_scope(db: &Snapshot, k: usize, m: ModuleId) -> Option<Place>
+    requires { (k ≤ db.now.records.layout.scopes) × Follows db.now.records.words.now db.now.records.layout m.0 k }
+    ensures { (A : List ℕ) → NextOf (is_module_entry (snap_by db.now.records A) m.0) scope_at scope_size
+        db.now.records.words.now (scope_base db.now.records.layout) db.now.records.layout.scopes k result }
 {
-    let test = |h| is_module_entry(records, h, m);
-    next_where(scopes(records), k, test)
+    let test = |h| is_module_entry(&db.records, h, m);
+    next_in_scope(db, m, k, test)
 }

@@ -29,8 +29,6 @@ use Rattle.hir_def.proofs.Laws.{Falls, steps_more}
 use Rattle.hir_def.proofs.Chains.{containing_falls}
 use Rattle.hir_def.proofs.Reading.{length_modules}
 use Rattle.hir_def.proofs.Lookups.{modules_whole}
-use Rattle.hir_def.proofs.Fits.{module_meets, module_known}
-use Rattle.scope_index.specs.Index.{owner_at, Follows}
 use Rattle.find_path.specs.Walk.{leads_to}
 use Rattle.search_laws.proofs.Walks.{select_hit, select_miss}
 
@@ -135,19 +133,6 @@ module _ (W A : List ℕ) (l : Layout) (from m : ℕ) where
         ∙ ap (map (entry_module snapshot))
         (select_miss near (scope_at W h) (left (j + 1))
         (ap (λ t. eqb (crate_of snapshot t) (crate_of snapshot from) && sees snapshot from (scope_at W h)) (sym e) ∙ sym q ∙ p))
-
-    pub leads_below : {t : ℕ} → Reads W A l → t ≡ entry_module snapshot (scope_at W h) → t < l.modules
-    leads_below r e =
-        let s = scope_at W h in
-        let a = and_right (eqb s.owner m) (eqb s.ns 0 && eqb (definition_of snapshot s.definition).kind 1) x.passes in
-        let b = and_right (eqb s.ns 0) (eqb (definition_of snapshot s.definition).kind 1) a in
-        rw e (module_known W A l r s.definition (module_meets W A l r x).definition (eqb-true _ _ b))
-
-    -- the record that it met is the module's
-    pub leads_follow : Follows W l m (j + 1)
-    leads_follow _ =
-        let e : j + 1 - 1 ≡ j = omega arith in
-        ap (owner_at W l) e ∙ ap (λ i. (scope_at W i).owner) (sym x.head) ∙ eqb-true _ _ (and_left (eqb (scope_at W h).owner m) _ x.passes)
 
   pub leads_end : {k : ℕ} → Ends (is_module_entry snapshot m) scope_at scope_size W (scope_base l) l.scopes k → leads_from k ≡ []
   unfolding select

@@ -12,8 +12,6 @@ use Rattle.snapshot.specs.Layouts.{snap_of, table_words}
 use Rattle.snapshot.proofs.Laws.{length_rows}
 use Rattle.accept.specs.Post.{Reads}
 use Rattle.hir_def.specs.declared.Item.{Item}
-use Rattle.scope_index.specs.Index.{index_at, links_at, index_end, owner_at, First as FirstOf, Indexed}
-use Rattle.scope_index.proofs.Chaining.{accepted_sized}
 use Rattle.find_path.specs.Walk.{has, visited}
 use Rattle.search_laws.proofs.Tables.{same_snap, same_reads}
 use Rattle.local_levels.specs.declared.Stack.{Stack}
@@ -81,16 +79,6 @@ module _ (W A B : List ℕ) (l : Layout) (top : ℕ) (r : Reads W A l) (low : ta
 
   pub reads_at : Reads W B l
   reads_at = same_reads W A B l (take_less B A table_words top low same) r
-
--- The chains lie below top: they stay.
-pub chains_at : (W A B : List ℕ) (l : Layout) (top : ℕ) → Reads W A l → index_end ≤ top → take top B ≡ take top A → Indexed W l 0 A → Indexed W l 0 B
-chains_at W A B l top r low same x =
-    let z = accepted_sized W A l r in
-    record {
-      heads = λ m h. subst (FirstOf W l m 0) (sym (agree B A top same (index_at + m) (omega (arith, z.few)))) (x.heads m h);
-      links = λ j h g. subst (FirstOf W l (owner_at W l j) (j + 1)) (sym (agree B A top same (links_at + j) (omega (arith, z.short))))
-          (x.links j h g);
-    }
 
 -- One module more, or not.
 module _ (A : List ℕ) (s : Stack) (n : ℕ) (item : Item) (m : ℕ) (y : Ready A s n) where

@@ -10,7 +10,6 @@ ghost use Rattle.hir_def.specs.Items.{crate_of};
 ghost use Rattle.tree_rules.specs.Visibility.{sees};
 ghost use Rattle.hir_def.specs.Nameres.{children_of, containers};
 ghost use Rattle.find_path.specs.Walk.{visited, leads_to, find_local_import_locations};
-ghost use Rattle.scope_index.specs.Index.{index_end, Indexed};
 ghost use Rattle.local_levels.specs.Levels.{levels_of, Chain};
 ghost use Rattle.local_levels.specs.Post.{Ready, Pushed, Gathered};
 
@@ -20,7 +19,7 @@ use accept::opened::Snapshot;
 use hir_def::items::first_of;
 use hir_def::modules::{containing_module, krate};
 use hir_def::visibility::is_visible_from;
-use scope_index::modules_from;
+use item_scope::modules_in_scope;
 use snapshot::ids::ModuleId;
 use snapshot::kind::Size;
 use snapshot::record::{child_child, child_owner, scope_definition, scope_seen};
@@ -99,7 +98,7 @@ fn leads(db: &Snapshot, from: ModuleId, h: usize, to: ModuleId) -> bool
 }
 
 // The modules that a module leads to, in record order.
-// `while let`: each turn looks for the next one after the last; an iterator would be a type more, with `modules_from` in it.
+// `loop`: each turn looks for the next one after the last, in the snapshot as it then is.
 fn push_next(
     records: &Records,
     area: &mut [u32],
@@ -109,25 +108,26 @@ fn push_next(
     sought: Sought,
     m: ModuleId,
 ) -> usize
-    requires { Reads records.now.words.now area.old records.now.layout × (from.0 < records.now.layout.modules) × Ready area.old s n × (index_end ≤ s.top)
-        × Indexed records.now.words.now records.now.layout 0 area.old }
+    requires { Reads records.now.words.now area.old records.now.layout × (from.0 < records.now.layout.modules) × Ready area.old s n }
     ensures { Pushed area.old s n sought.item (leads_to (snap_by records.now area.old) from.0 m.0)
         area.new result }
 {
     let mut run = n;
     let mut k = 0;
-    while let Some(next) = modules_from(records, area, k, m) {
-        let to = ModuleId(first_of(records, scope_definition(records.words, next.head)));
+    loop {
         let db = Snapshot {
             records: *records,
             area,
         };
+        let Some(next) = modules_in_scope(&db, k, m) else {
+            return run;
+        };
+        let to = ModuleId(first_of(records, scope_definition(records.words, next.head)));
         if leads(&db, from, next.head, to) {
             run = push_module(area, s, run, sought, to);
         }
         k = next.number + 1;
     }
-    run
 }
 
 /// The modules that a local search for the item takes, in order, as a run at the top.
@@ -139,7 +139,7 @@ pub fn find_local_import_locations(
     sought: Sought,
 ) -> usize
     requires { Reads records.now.words.now area.old records.now.layout × (from.0 < records.now.layout.modules) × (table_words ≤ s.top) × (s.top + module_limit ≤ length area.old)
-        × Chain area.old s.place s.depth s.top × (index_end ≤ s.top) × Indexed records.now.words.now records.now.layout 0 area.old }
+        × Chain area.old s.place s.depth s.top }
     ensures { Gathered area.old s.top (find_local_import_locations (snap_by records.now area.old)
         from.0 (visited (levels_of area.old s.place s.depth) sought.item)) area.new result }
 {

@@ -35,9 +35,8 @@ use Rattle.distances.specs.Distances.{distances_end}
 use Rattle.tight_rows.specs.Rows.{rows_at, Rows}
 use Rattle.tight_rows.proofs.Keeping.{rows_at_lem, rows_set}
 use Rattle.local_search.proofs.Knowns.{locations_there}
-use Rattle.scope_index.specs.Index.{Indexed}
 use Rattle.walk_once.specs.Walked.{Walked}
-use Rattle.local_search.proofs.Searches.{bounds_at, chains_kept, walked_kept}
+use Rattle.local_search.proofs.Searches.{bounds_at, walked_kept}
 
 -- An open level: its header and its run stand, and all below is as where the loop began.
 pub record Open (A₁ : List ℕ) (s : Stack) (item : Item) (n : ℕ) (A : List ℕ) : Type 0 where
@@ -204,9 +203,6 @@ module _ (W A₀ : List ℕ) (l : Layout) (x : FindPathCtx) (left : ℕ) (item :
       (rows_set W A₀ l x s.top code y.reads y.rows (omega (arith, y.numbers)) (omega (arith, room))) (omega (arith, y.numbers))
       (omega (arith, room))
 
-  pub head_chains : Indexed W l 0 H
-  head_chains = chains_kept H y (head_below A₀ s code)
-
   pub head_walked : Walked (snap_of W H l) x.from.0 H
   head_walked = walked_kept H y (head_below A₀ s code)
 
@@ -281,7 +277,6 @@ module _ (W A₀ : List ℕ) (l : Layout) (x : FindPathCtx) (left : ℕ) (item :
             tables = omega (arith, y.tables);
             numbers = omega (arith, y.numbers);
             bounds = bounds_at B y (cursor_open.below ∙ start_below);
-            indexed = chains_kept B y (cursor_open.below ∙ start_below);
             walked = walked_kept B y (cursor_open.below ∙ start_below);
             rows =
                 rows_set W A l x (s.top + 2) k (reads_at W A₀ A l s.top y.reads y.tables (v.opened.below ∙ start_below))

@@ -39,17 +39,14 @@ use Rattle.distances.specs.Post.{Ready, Bounded}
 use Rattle.local_levels.specs.declared.Stack.{Stack}
 use Rattle.local_levels.specs.Levels.{Small, levels_of}
 use Rattle.tight_rows.specs.Rows.{rows_at, row_at, last_place, row_of, row_place, row_flag, Entered, Row}
-use Rattle.scope_index.specs.Index.{index_at, index_end, Indexed, Sized}
-use Rattle.scope_index.specs.Post.{Made}
-use Rattle.scope_index.proofs.Chaining.{accepted_sized}
-use Rattle.walk_once.specs.Walked.{walk_end, Walked}
+use Rattle.walk_once.specs.Walked.{walk_at, walk_end, Walked}
 use Rattle.walk_once.specs.Post.{Kept}
 use Rattle.walk_once.proofs.Walking.{walked_at}
 use Rattle.tight_rows.specs.Post.{Cleared, Tight}
 use Rattle.tight_rows.proofs.Keeping.{imports_known, row_asked, row_kept, rows_put, rows_none}
 use Rattle.local_search.specs.Post.{Searchable, Answered}
 use Rattle.local_levels.proofs.Rows.{agree, take_less}
-use Rattle.local_levels.proofs.Stacks.{chain_none, snap_at, reads_at, chains_at}
+use Rattle.local_levels.proofs.Stacks.{chain_none, snap_at, reads_at}
 
 -- a smaller length can be searched too
 pub searchable_less : {W A : List ℕ} {l : Layout} {x : FindPathCtx} {left : ℕ} {s : Stack} (j : ℕ) → Searchable W A l x left s
@@ -62,7 +59,6 @@ searchable_less j y h =
       tables = y.tables;
       numbers = y.numbers;
       bounds = y.bounds;
-      indexed = y.indexed;
       walked = y.walked;
       rows = y.rows;
       space = omega (arith, y.space);
@@ -80,13 +76,7 @@ bounds_at {W} {A} {l} {x} {left} {s} B y e k m h n =
     let b = y.bounds k m h (subst (λ (z : Snapshot). near z x [] k m ≡ true) (snap_at W A B l s.top y.reads y.tables e) n) in
     omega (arith, a, b)
 
--- ... and so do the chains
-pub chains_kept : {W A : List ℕ} {l : Layout} {x : FindPathCtx} {left : ℕ} {s : Stack} (B : List ℕ) → Searchable W A l x left s
-    → take s.top B ≡ take s.top A → Indexed W l 0 B
-chains_kept {W} {A} {l} {x} {left} {s} B y e =
-    chains_at W A B l s.top y.reads (omega (arith, y.numbers)) e y.indexed
-
--- ... and the walk
+-- ... and so does the walk
 pub walked_kept : {W A : List ℕ} {l : Layout} {x : FindPathCtx} {left : ℕ} {s : Stack} (B : List ℕ) → Searchable W A l x left s
     → take s.top B ≡ take s.top A
     → Walked (snap_of W B l) x.from.0 B
@@ -364,67 +354,56 @@ module _ (W A : List ℕ) (l : Layout) (x : FindPathCtx) (left : ℕ) (s : Stack
               rows = a.rows;
             }
 
--- nothing is under way: the numbers are set, the records are chained, the walk is taken, and the rows are cleared
+-- nothing is under way: the numbers are set, the walk is taken, and the rows are cleared
 module _ (W A₀ : List ℕ) (l : Layout) (x : FindPathCtx) (p : Prepared W A₀ l x) (N : List ℕ) (n : Bounded W A₀ l x N) where
   pub numbers_reads : Reads W N l
   numbers_reads = same_reads W A₀ N l n.tables p.reads
 
-  pub chains_sized : Sized W l
-  chains_sized = accepted_sized W A₀ l p.reads
+  module _ (K : List ℕ) (w : Kept W N l x.from.0 K) (A : List ℕ) (v : Cleared K l.modules A) where
+    below_walk : take walk_at A ≡ take walk_at N
+    below_walk = take_less A K walk_at rows_at (omega arith) v.below ∙ w.below
 
-  module _ (I : List ℕ) (c : Made W N l 0 I) where
-    chains_tables : take table_words I ≡ take table_words A₀
-    chains_tables = take_less I N table_words index_at (omega arith) c.below ∙ n.tables
+    tables_same : take table_words A ≡ take table_words A₀
+    tables_same = take_less A N table_words walk_at (omega arith) below_walk ∙ n.tables
 
-    pub chains_reads : Reads W I l
-    chains_reads = same_reads W A₀ I l chains_tables p.reads
+    sn : snap_of W A l ≡ snap_of W A₀ l
+    sn = same_snap W A₀ A l tables_same p.reads
 
-    module _ (K : List ℕ) (w : Kept W I l x.from.0 K) (A : List ℕ) (v : Cleared K l.modules A) where
-      below_walk : take index_end A ≡ take index_end I
-      below_walk = take_less A K index_end rows_at (omega arith) v.below ∙ w.below
+    numbers_same : (m : ℕ) → m < l.modules → distance A m ≡ distance N m
+    numbers_same m h =
+        let b = p.reads.tables.limited.modules in
+        agree A N walk_at below_walk (table_words + m) (omega (arith, h, b))
 
-      tables_same : take table_words A ≡ take table_words A₀
-      tables_same = take_less A I table_words index_end (omega arith) below_walk ∙ chains_tables
+    pub search_start : (left : ℕ) → left ≤ path_limit → length A ≡ length A₀
+        → Searchable W A l x left (record { top = walk_end; place = 0; depth = 0 })
+    search_start left h z =
+        record {
+          reads = same_reads W A₀ A l tables_same p.reads;
+          from = p.from;
+          area = z ∙ p.area;
+          tables = omega arith;
+          numbers = omega arith;
+          bounds = λ k m q o.
+              let a = numbers_same m q in
+              let b = n.bounds k m q (subst (λ (s : Snapshot). near s x [] k m ≡ true) sn o) in
+              omega (arith, a, b);
+          walked =
+              walked_at (snap_of W A l) x.from.0 K A
+              (subst (λ (s : Snapshot). Walked s x.from.0 K) (same_snap W A₀ N l n.tables p.reads ∙ sym sn) w.walked)
+              (take_less A K walk_end rows_at (omega arith) v.below);
+          rows = rows_none W A l x v.none;
+          space = omega arith;
+          deep = omega arith;
+          chain = chain_none A 0 walk_end;
+          under = omega arith;
+        }
 
-      sn : snap_of W A l ≡ snap_of W A₀ l
-      sn = same_snap W A₀ A l tables_same p.reads
-
-      numbers_same : (m : ℕ) → m < l.modules → distance A m ≡ distance N m
-      numbers_same m h =
-          let b = p.reads.tables.limited.modules in
-          agree A I index_end below_walk (table_words + m) (omega (arith, h, b)) ∙ agree I N index_at c.below (table_words + m) (omega (arith, h, b))
-
-      pub search_start : (left : ℕ) → left ≤ path_limit → length A ≡ length A₀
-          → Searchable W A l x left (record { top = walk_end; place = 0; depth = 0 })
-      search_start left h z =
-          record {
-            reads = same_reads W A₀ A l tables_same p.reads;
-            from = p.from;
-            area = z ∙ p.area;
-            tables = omega arith;
-            numbers = omega arith;
-            bounds = λ k m q o.
-                let a = numbers_same m q in
-                let b = n.bounds k m q (subst (λ (s : Snapshot). near s x [] k m ≡ true) sn o) in
-                omega (arith, a, b);
-            indexed = chains_at W I A l index_end chains_reads (omega arith) below_walk c.indexed;
-            walked =
-                walked_at (snap_of W A l) x.from.0 K A
-                (subst (λ (s : Snapshot). Walked s x.from.0 K) (same_snap W A₀ I l chains_tables p.reads ∙ sym sn) w.walked)
-                (take_less A K walk_end rows_at (omega arith) v.below);
-            rows = rows_none W A l x v.none;
-            space = omega arith;
-            deep = omega arith;
-            chain = chain_none A 0 walk_end;
-            under = omega arith;
-          }
-
-      pub search_done : (left : ℕ) (item : Item) (B : List ℕ) (r : Option Path)
-          → Answered W A l x walk_end (calculate_best_path_local (snap_of W A l) x (search_local (snap_of W A l) x) left (levels_of A 0 0) item) B r
-          → Chosen A₀ (best_local (snap_of W A₀ l) x left item) B r
-      unfolding best_local levels_of
-      search_done left item B r a =
-          record {
-            same = a.same ∙ ap (λ (s : Snapshot). best_local s x left item) sn;
-            tables = take_less B A table_words walk_end (omega arith) a.below ∙ tables_same;
-          }
+    pub search_done : (left : ℕ) (item : Item) (B : List ℕ) (r : Option Path)
+        → Answered W A l x walk_end (calculate_best_path_local (snap_of W A l) x (search_local (snap_of W A l) x) left (levels_of A 0 0) item) B r
+        → Chosen A₀ (best_local (snap_of W A₀ l) x left item) B r
+    unfolding best_local levels_of
+    search_done left item B r a =
+        record {
+          same = a.same ∙ ap (λ (s : Snapshot). best_local s x left item) sn;
+          tables = take_less B A table_words walk_end (omega arith) a.below ∙ tables_same;
+        }

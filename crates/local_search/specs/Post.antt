@@ -11,7 +11,6 @@ use Rattle.find_path.specs.declared.FindPathCtx.{FindPathCtx}
 use Rattle.distances.specs.Distances.{distance, Bounds}
 use Rattle.local_levels.specs.declared.Stack.{Stack}
 use Rattle.local_levels.specs.Levels.{Chain}
-use Rattle.scope_index.specs.Index.{Indexed}
 use Rattle.walk_once.specs.Walked.{walk_end, Walked}
 use Rattle.tight_rows.specs.Rows.{rows_at, Rows}
 
@@ -19,8 +18,8 @@ use Rattle.tight_rows.specs.Rows.{rows_at, Rows}
 abbrev pub level_size : ℕ
 level_size = 3 + module_limit
 
--- The arguments of a local search of that length: the words of each level that it can open, the numbers of the modules, the chains of the
--- records and the walk below them, and the rows above.
+-- The arguments of a local search of that length: the words of each level that it can open, the numbers of the modules and
+-- the walk below them, and the rows above.
 -- (a clause and no type: the area is written between, and a value with this fact would have to be made anew after each write)
 pub record Searchable (W A : List ℕ) (l : Layout) (x : FindPathCtx) (left : ℕ) (s : Stack) : Type 0 where
   pub reads : Reads W A l
@@ -29,7 +28,6 @@ pub record Searchable (W A : List ℕ) (l : Layout) (x : FindPathCtx) (left : �
   pub tables : table_words ≤ s.top
   pub numbers : walk_end ≤ s.top
   pub bounds : Bounds (snap_of W A l) x l.modules (distance A)
-  pub indexed : Indexed W l 0 A
   pub walked : Walked (snap_of W A l) x.from.0 A
   pub rows : Rows W A l x
   pub space : s.top + level_size * left ≤ rows_at

@@ -24,7 +24,6 @@ use local_levels::{Sought, Stack};
 use path_offers::offers::{importable_name, offer_entry};
 use path_rules::choices::length_left;
 use path_rules::rules::module_rules;
-use scope_index::index_scopes;
 use snapshot::ids::{Area, ModuleId};
 use snapshot::record::scope_owner;
 use snapshot::records::Records;
@@ -207,7 +206,6 @@ pub fn calculate_best_path_local(
 {
     let sought = Sought { item };
     set_distances(records, area, x);
-    index_scopes(records, area);
     take_walk(records, area, x.from, sought);
     clear_rows(area, records.layout.modules);
     let none = Stack {

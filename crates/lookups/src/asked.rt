@@ -70,14 +70,14 @@ impl Asked<'_, '_> {
     fn name_in(&self, m: usize, ns: usize, d: usize) -> Result<Answer, OutOfRange> {
         let m = self.module(m)?;
         let item = self.item(ns, d)?;
-        Ok(self.name_at(name_of(&self.db.records, m, item).entry))
+        Ok(self.name_at(name_of(&self.db, m, item).entry))
     }
 
     // How many scope records the lookup of the item reads.
     fn reads(&self, m: usize, ns: usize, d: usize, choice: Choice) -> Result<Answer, OutOfRange> {
         let m = self.module(m)?;
         let item = self.item(ns, d)?;
-        let found = entry_in(&self.db.records, m, item, choice.declared, choice.fresh);
+        let found = entry_in(&self.db, m, item, choice.declared, choice.fresh);
         Ok(Answer::Number(Some(found.read)))
     }
 
@@ -127,7 +127,7 @@ impl Asked<'_, '_> {
     fn extern_named(&self, c: usize, m: usize) -> Result<Answer, OutOfRange> {
         let c = Crate(below(c, self.db.records.layout.crates)?);
         let m = self.module(m)?;
-        let e = extern_of(&self.db.records, c, m);
+        let e = extern_of(&self.db, c, m);
         let n = e.map(|h| extern_name(self.db.records.words, h).0);
         Ok(Answer::Number(n))
     }

@@ -32,7 +32,7 @@ pub fn scope_entry(
     ensures { entry_of scope_at db.now.records.words.now result ≡ scope_entry (snap_in db.now)
         from.0 item declared_only fresh }
 {
-    let find = |m| entry_in(&db.records, m, item, declared_only, fresh).entry;
+    let find = |m| entry_in(db, m, item, declared_only, fresh).entry;
     let outward = |m| block(db, m);
     nearest(from, find, outward)
 }
@@ -45,7 +45,7 @@ pub fn entry_named(db: &Snapshot, from: ModuleId, ns: usize, name: Name) -> Opti
     ensures { entry_of scope_at db.now.records.words.now result ≡ entry_named (snap_in db.now)
         from.0 ns name.0 }
 {
-    let find = |m| get(&db.records, m, ns, name);
+    let find = |m| get(db, m, ns, name);
     let outward = |m| block(db, m);
     nearest(from, find, outward)
 }
@@ -69,7 +69,7 @@ pub fn occupied(db: &Snapshot, from: ModuleId, m: ModuleId, name: Name) -> bool
 {
     let mut a = from;
     loop {
-        let e = get(&db.records, a, Namespace::TYPES, name);
+        let e = get(db, a, Namespace::TYPES, name);
         if is_other(&db.records, e, m) {
             return true;
         }

@@ -5,12 +5,10 @@ ghost use Rattle.record_rules.specs.Stands.{counts_in};
 ghost use Rattle.accept.specs.Valid.{ScopeFits, ImportFits};
 ghost use Rattle.accept.specs.Opened.{snap_in};
 ghost use Rattle.hir_def.specs.Entries.{entry_of};
-ghost use Rattle.hir_def.specs.ItemScope.{name_of, preferred};
 ghost use Rattle.path_choices.specs.Given.{given};
 ghost use Rattle.find_path.specs.Conditions.{EntryFits};
 ghost use Rattle.find_path.specs.Local.{offer as offer_of, offer_entry, is_importable, importable_name};
 ghost use Rattle.find_path.specs.Charged.{offer_import};
-ghost use Rattle.scope_index.specs.Index.{Indexed};
 
 use accept::opened::Snapshot;
 use find_path::{Choice, FindPathCtx};
@@ -18,32 +16,17 @@ use hir_def::Item;
 use import_map::is_unstable;
 use path_choices::choices::{StepRule, step_by, unstably};
 use rule_lookups::{Rule, entry_by, is_importable};
-use scope_index::name_in;
 use snapshot::ids::{ModuleId, Name};
 use snapshot::record::{import_name, scope_name};
-
-// The first of the module's entries for the item; by options bit 32 the first that isn't deprecated and that the viewer can import, if there
-// is one.
-fn entry_for(db: &Snapshot, x: FindPathCtx, item: Item, m: ModuleId) -> Option<usize>
-    requires { (x.from.0 < db.now.records.layout.modules) × (m.0 < db.now.records.layout.modules) × Indexed db.now.records.words.now db.now.records.layout 0 db.now.area.now }
-    ensures { entry_of scope_at db.now.records.words.now result ≡ preferred x.fresh (snap_in db.now)
-        m.0 item (is_importable (snap_in db.now) x)
-        (name_of (snap_in db.now) m.0 item) }
-{
-    if x.fresh {
-        return entry_by(db, x, m, item, Rule::Local).entry;
-    }
-    name_in(&db.records, db.area, m, item)
-}
 
 /// The entry by which the viewer can import the item from the module, its first; by options bit 32 the first such one that isn't
 /// deprecated, if there is one.
 pub fn importable_name(db: &Snapshot, x: FindPathCtx, item: Item, m: ModuleId) -> Option<usize>
-    requires { (x.from.0 < db.now.records.layout.modules) × (m.0 < db.now.records.layout.modules) × Indexed db.now.records.words.now db.now.records.layout 0 db.now.area.now }
+    requires { x.from.0 < db.now.records.layout.modules }
     ensures { (entry_of scope_at db.now.records.words.now result ≡ importable_name (snap_in db.now) x item m.0)
         × EntryFits db.now.records.words.now db.now.records.layout result }
 {
-    let h = entry_for(db, x, item, m)?;
+    let h = entry_by(db, x, m, item, Rule::Local).entry?;
     if is_importable(db, x, h) {
         return Some(h);
     }

@@ -147,7 +147,7 @@ pub fn root_rule(db: &Snapshot, x: FindPathCtx, maybe_extern: bool, m: ModuleId)
     if !maybe_extern | (m == x.crate_root) {
         return Some(keyword(PathKind::Crate as usize));
     }
-    let e = extern_of(&db.records, x.from_crate, m);
+    let e = extern_of(db, x.from_crate, m);
     extern_rule(db, x, m, e)
 }
 

@@ -46,7 +46,7 @@ pub(crate) fn stands_for(db: &Snapshot, m: ModuleId) -> ModuleId
 pub(crate) fn entry_from(view: &View, ns: usize, name: Name) -> Option<usize>
     ensures { entry_of scope_at view.now.db.records.words.now result ≡ entry_from (snap_in view.now.db) view.now.from.0 ns name.0 }
 {
-    let find = |m| get(&view.db.records, m, ns, name);
+    let find = |m| get(&view.db, m, ns, name);
     let step = |m| outward(&view.db, m);
     nearest(view.from, find, step)
 }

@@ -45,7 +45,7 @@ fn in_scope(view: &View, m: ModuleId, ns: usize, name: Name) -> Option<Item>
     ensures { result ≡ entry_or (snap_in view.now.db) view.now.from.0 None
         (entry_named (snap_in view.now.db) m.0 ns name.0) }
 {
-    let h = get(&view.db.records, m, ns, name)?;
+    let h = get(&view.db, m, ns, name)?;
     meaning(view, h)
 }
 

@@ -15,7 +15,7 @@ use Rattle.snapshot.specs.Records.{Map, Snapshot, name_at, crate_at, dependency_
 use Rattle.snapshot.specs.Records.{extern_at, member_at}
 use Rattle.snapshot.specs.Layouts.{word_count, crate_base, dependency_base, map_base, child_base, prelude_base, definition_base, scope_base, import_base}
 use Rattle.snapshot.specs.Layouts.{extern_base, member_base, name_head, module_map, module_head, module_row, own_map, names_of, modules_of, records_of}
-use Rattle.snapshot.specs.Layouts.{snap_with, module_table, root_table, crate_table, table_words}
+use Rattle.snapshot.specs.Layouts.{snap_with, module_table, root_table, crate_table, row_words}
 use Rattle.snapshot.specs.declared.layout.Layout.{Layout}
 use Rattle.snapshot.proofs.Laws.{rows_snoc, rows_zero, rows_ext}
 use Rattle.check_rules.specs.Tests.{no_map}
@@ -143,7 +143,7 @@ pub record Told (W B : List ℕ) (names crates maps modules latest : ℕ) (ms : 
   pub inside : (m : ℕ) → m < modules → get_or ms (module_map B m) no_map ≡ map_at W (module_head B m)
   pub own : (c : ℕ) → c < crates → own_map B c ≡ own_of c ms
 
-module _ (W A B : List ℕ) (k at : ℕ) (l : Layout) (ms : List Map) (st : Stands W A k at l ms) (kept : Kept A B 0 table_words) where
+module _ (W A B : List ℕ) (k at : ℕ) (l : Layout) (ms : List Map) (st : Stands W A k at l ms) (kept : Kept A B 0 row_words) where
   map_of_lem : (m : ℕ) → m < l.modules → module_map B m ≡ module_map A m
   map_of_lem m h = let r = st.limited.modules in kept (module_table + 3 * m) (omega arith) (omega arith)
 
@@ -319,7 +319,7 @@ module _ (W A B : List ℕ) (k at text latest : ℕ) (l : Layout) (ms : List Map
       }
 
 -- a record of a kind that has no table: the tables are kept
-module _ (W A B : List ℕ) (k at : ℕ) (l : Layout) (ms : List Map) (st : Stands W A k at l ms) (kept : Kept A B 0 table_words)
+module _ (W A B : List ℕ) (k at : ℕ) (l : Layout) (ms : List Map) (st : Stands W A k at l ms) (kept : Kept A B 0 row_words)
     (n1 : eqb k 1 ≡ false) (n2 : eqb k 2 ≡ false) (n4 : eqb k 4 ≡ false) (n5 : eqb k 5 ≡ false)
   where
     pub plain_added : snap_with W B (one_more k l) ms ≡ add_at k W at (snap_with W A l ms)

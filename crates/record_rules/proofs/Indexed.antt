@@ -13,7 +13,7 @@ use Rattle.snapshot.specs.Lists.{any, eq_list}
 use Rattle.snapshot.specs.Limits.{name_limit, area_limit}
 use Rattle.snapshot.specs.Sizes.{child_size, definition_size, scope_size, extern_size}
 use Rattle.snapshot.specs.Records.{Name, name_at}
-use Rattle.snapshot.specs.Layouts.{child_base, definition_base, scope_base, extern_base, no_records, name_head, names_of, module_table, table_words}
+use Rattle.snapshot.specs.Layouts.{child_base, definition_base, scope_base, extern_base, no_records, name_head, names_of, module_table, row_words}
 use Rattle.snapshot.specs.declared.layout.Layout.{Layout}
 use Rattle.chains.specs.Chains.{keys, name_key, record_key, slot_of, Marked, Last, Chained, linked, name_heads, scope_heads, extern_heads, child_marks}
 use Rattle.chains.specs.Chains.{module_marks, marks_end, name_links, scope_links, extern_links}
@@ -29,12 +29,12 @@ Kept A B from to = (i : ℕ) → from ≤ i → i < to → get_or B i 0 ≡ get_
 
 -- the words past the tables are kept
 abbrev pub Above : List ℕ → List ℕ → Type 0
-Above A B = (i : ℕ) → table_words ≤ i → get_or B i 0 ≡ get_or A i 0
+Above A B = (i : ℕ) → row_words ≤ i → get_or B i 0 ≡ get_or A i 0
 
 pub set_kept : (A : List ℕ) (i v from to : ℕ) → ((j : ℕ) → from ≤ j → j < to → j ≢ i) → Kept A (set A i v) from to
 set_kept A i v from to h j p q = get_or-set_other A i j v 0 (h j p q)
 
-pub set_above : (A : List ℕ) (i v : ℕ) → i < table_words → Above A (set A i v)
+pub set_above : (A : List ℕ) (i v : ℕ) → i < row_words → Above A (set A i v)
 set_above A i v h j p = get_or-set_other A i j v 0 (omega arith)
 
 abbrev key_at : List ℕ → List ℕ → ℕ → ℕ
@@ -44,7 +44,7 @@ pub key_small : (n : ℕ) {key : ℕ} → key ≡ n % keys → key < keys
 key_small n e = omega arith
 
 -- before the first record
-pub indexes_none : (W A : List ℕ) → ((i : ℕ) → table_words ≤ i → i < marks_end → get_or A i 0 ≡ 0) → Indexes W A no_records
+pub indexes_none : (W A : List ℕ) → ((i : ℕ) → row_words ≤ i → i < marks_end → get_or A i 0 ≡ 0) → Indexes W A no_records
 indexes_none W A z =
     record {
       names = chained_none A name_heads name_links _ (λ b h. z _ (omega arith) (omega arith));
@@ -130,7 +130,7 @@ module _ (W A : List ℕ) (l : Layout) (at key : ℕ) (ix : Indexes W A l) (room
       (simp length-set (omega arith)) small
       (ap (λ x. name_key (name_at W x)) (get_or-set_same A l.names at 0 (omega arith)) ∙ sym ek)
 
-  pub name_stays : (i : ℕ) → i < table_words → get_or (linked (set A l.names at) name_heads name_links key l.names) i 0
+  pub name_stays : (i : ℕ) → i < row_words → get_or (linked (set A l.names at) name_heads name_links key l.names) i 0
       ≡ get_or (set A l.names at) i 0
   name_stays i h = linked_other (set A l.names at) name_heads name_links key l.names i (omega arith) (omega arith)
 

@@ -121,7 +121,7 @@ Answered W A k next x (Ok l) = (ms : List Map) × (x ≡ on (snap_with W A l ms)
 -- the first n modules have their maps' first modules in the table; the other tables stay
 pub record Rooted (A₀ A : List ℕ) (n : ℕ) : Type 0 where
   pub names : (i : ℕ) → i < root_table → get_or A i 0 ≡ get_or A₀ i 0
-  pub crates : (c : ℕ) → own_map A c ≡ own_map A₀ c
+  pub crates : (c : ℕ) → c < crate_limit → own_map A c ≡ own_map A₀ c
   pub below : (m : ℕ) → m < n → map_root A (module_map A₀ m) < n
   pub inside : (m : ℕ) → m < n → module_map A₀ (map_root A (module_map A₀ m)) ≡ module_map A₀ m
   pub first : (m : ℕ) → m < n → map_root A (module_map A₀ m) ≤ m

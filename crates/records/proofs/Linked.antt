@@ -13,7 +13,7 @@ use Rattle.snapshot.specs.Limits.{word_limit, module_limit, name_limit, area_lim
 use Rattle.snapshot.specs.Words.{pay_of}
 use Rattle.snapshot.specs.Sizes.{child_size, definition_size, scope_size, extern_size}
 use Rattle.snapshot.specs.Records.{Map, Definition, name_at, child_at, definition_at}
-use Rattle.snapshot.specs.Layouts.{child_base, definition_base, scope_base, extern_base, name_head, table_words}
+use Rattle.snapshot.specs.Layouts.{child_base, definition_base, scope_base, extern_base, name_head, row_words}
 use Rattle.snapshot.specs.declared.layout.Layout.{Layout}
 use Rattle.chains.specs.Chains.{name_key, record_key, slot_of, Marked, Last, Chained, linked, keys, name_heads, scope_heads, extern_heads, child_marks}
 use Rattle.chains.specs.Chains.{module_marks, marks_end, name_links, scope_links, extern_links}
@@ -28,7 +28,7 @@ use Rattle.record_rules.proofs.Grows.{one_more}
 
 -- one record more in its chain: the tables stay, and the chains are those of the layout
 pub record Linked (W A B : List ℕ) (l : Layout) : Type 0 where
-  pub kept : Kept A B 0 table_words
+  pub kept : Kept A B 0 row_words
   pub index : Indexes W B l
 
 module _ (W A : List ℕ) (l : Layout) (ix : Indexes W A l) {base : ℕ} where

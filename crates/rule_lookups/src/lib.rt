@@ -126,5 +126,5 @@ pub fn entry_by(db: &Snapshot, x: FindPathCtx, m: ModuleId, item: Item, rule: Ru
     if x.fresh {
         return fresh_of(db, x, m, item, rule);
     }
-    name_of(&db.records, m, item)
+    name_of(db, m, item)
 }

@@ -1,7 +1,7 @@
 -- Where the records stand, and which lists a layout and its tables stand for.
-use Rattle.std.specs.Prelude.{ℕ, ◌+◌, ◌*◌, List, get_or}
+use Rattle.std.specs.Prelude.{ℕ, ◌+◌, ◌*◌, ◌/◌, List, get_or}
 use Rattle.snapshot.specs.Lists.{rows}
-use Rattle.snapshot.specs.Limits.{crate_limit, module_limit, name_limit}
+use Rattle.snapshot.specs.Limits.{word_limit, crate_limit, module_limit, name_limit}
 use Rattle.snapshot.specs.Sizes.{crate_size, dependency_size, map_size, module_size, child_size, prelude_size, definition_size, scope_size, import_size}
 use Rattle.snapshot.specs.Sizes.{extern_size, member_size}
 use Rattle.snapshot.specs.Records.{Name, Map, Module, Snapshot, name_at, crate_at, dependency_at, map_at, child_at, prelude_at, definition_at, scope_at}
@@ -64,8 +64,9 @@ no_records =
       latest = 0;
     }
 
--- the tables of the work area: a name's head; a module's map, its map's head and its parent +1; a map's root; a crate's own map +1. The
--- first stands at 0; here are the first words of the others, and the words of all
+-- the tables of the work area: a name's head; a module's map, its map's head and its parent +1; a map's root; a crate's own map +1; and the
+-- index: a module's first scope record and each record's next one of its module, and of the dependencies, imports and externs a crate's first and
+-- one past its last. The first stands at 0; here are the first words of the others, those before the index, and the words of all
 
 abbrev pub module_table : ℕ
 module_table = name_limit
@@ -77,8 +78,30 @@ root_table = module_table + 3 * module_limit
 abbrev pub crate_table : ℕ
 crate_table = root_table + module_limit
 
+abbrev pub row_words : ℕ
+row_words = crate_table + crate_limit
+
+abbrev pub first_table : ℕ
+first_table = row_words
+
+abbrev pub link_table : ℕ
+link_table = first_table + module_limit
+
+-- so many scope records fit into the words
+abbrev pub scope_limit : ℕ
+scope_limit = word_limit / scope_size
+
+abbrev pub dependency_table : ℕ
+dependency_table = link_table + scope_limit
+
+abbrev pub import_table : ℕ
+import_table = dependency_table + 2 * crate_limit
+
+abbrev pub extern_table : ℕ
+extern_table = import_table + 2 * crate_limit
+
 abbrev pub table_words : ℕ
-table_words = crate_table + crate_limit
+table_words = extern_table + 2 * crate_limit
 
 abbrev pub name_head : List ℕ → ℕ → ℕ
 name_head A k = get_or A k 0

@@ -3,7 +3,8 @@
 ghost use Rattle.std.specs.Prelude.{◌≡◌, ◌+◌, ◌*◌, ◌^◌, ◌<◌};
 ghost use Rattle.snapshot.specs.Layouts.{name_head, module_map, module_head, module_parent, map_root, own_map};
 
-use crate::ids::{Crate, ModuleId, Name};
+use crate::ids::{Crate, ModuleId, Name, WordCount};
+use crate::kind::Size;
 use crate::words::word;
 
 /// The first word of each table, and the first word past them.
@@ -19,7 +20,21 @@ impl Tables {
     /// A word a crate: its own map +1.
     pub const CRATES: usize = Tables::ROOTS + ModuleId::LIMIT;
 
-    pub const END: usize = Tables::CRATES + Crate::LIMIT;
+    /// The first word past what the check writes as it goes; the index of the scope records follows.
+    pub const ROWS: usize = Tables::CRATES + Crate::LIMIT;
+    /// A word a module: its first scope record, or the number of all of them.
+    pub const FIRSTS: usize = Tables::ROWS;
+    /// A word a scope record: the next one of its module, or the number of all.
+    pub const LINKS: usize = Tables::FIRSTS + ModuleId::LIMIT;
+
+    /// Two words a crate: its first dependency, and one past its last, or 0 where it has none. The second words stand after all the first.
+    pub const DEPENDENCIES: usize = Tables::LINKS + WordCount::SNAPSHOT / Size::SCOPE;
+    /// The same of imports.
+    pub const IMPORTS: usize = Tables::DEPENDENCIES + 2 * Crate::LIMIT;
+    /// The same of externs.
+    pub const EXTERNS: usize = Tables::IMPORTS + 2 * Crate::LIMIT;
+
+    pub const END: usize = Tables::EXTERNS + 2 * Crate::LIMIT;
 }
 
 /// The head of a name.

@@ -16,12 +16,11 @@ use Rattle.snapshot.proofs.Laws.{rows_ext}
 use Rattle.hir_def.specs.declared.Item.{Item}
 use Rattle.find_path.specs.Walk.{visited, find_local_import_locations}
 use Rattle.search_laws.proofs.Fewer.{walk_same}
-use Rattle.scope_index.specs.Index.{index_end}
 use Rattle.local_levels.specs.declared.Stack.{Stack}
 use Rattle.local_levels.specs.Levels.{run_at, levels_of}
 use Rattle.local_levels.specs.Post.{Gathered}
 use Rattle.local_levels.proofs.Rows.{agree, run_same}
-use Rattle.walk_once.specs.Walked.{walk_count, walk_end, Walked}
+use Rattle.walk_once.specs.Walked.{walk_at, walk_count, walk_end, Walked}
 use Rattle.walk_once.specs.Post.{Copied, Kept}
 
 -- the walk stays while the words below its end do
@@ -29,7 +28,7 @@ pub walked_at : (s : Snapshot) (from : ℕ) (A B : List ℕ) → Walked s from A
 walked_at s from A B w e =
     let q : get_or B walk_count 0 ≡ get_or A walk_count 0 = agree B A walk_end e walk_count (omega arith) in
     record {
-      same = ap (λ n. run_at B index_end n) q ∙ run_same B A walk_end e index_end (get_or A walk_count 0) (omega (arith, w.few)) ∙ w.same;
+      same = ap (λ n. run_at B walk_at n) q ∙ run_same B A walk_end e walk_at (get_or A walk_count 0) (omega (arith, w.few)) ∙ w.same;
       few = omega (arith, q, w.few);
     }
 
@@ -39,16 +38,16 @@ unfolding visited any
 none_visited item m = refl
 
 -- the first modules of the walk, copied
-pub copied_all : (A₀ A : List ℕ) (to m n : ℕ) → m ≡ n → n ≤ module_limit → to ≤ length A₀ → A ≡ paste A₀ to (drop index_end A₀) m
-    → CopiedTo A₀ A index_end to m → SameFrom A₀ A (to + m) → Copied A₀ to n A
+pub copied_all : (A₀ A : List ℕ) (to m n : ℕ) → m ≡ n → n ≤ module_limit → to ≤ length A₀ → A ≡ paste A₀ to (drop walk_at A₀) m
+    → CopiedTo A₀ A walk_at to m → SameFrom A₀ A (to + m) → Copied A₀ to n A
 copied_all A₀ A to m n p few h e c f =
     record {
       run =
-          rows_ext (λ i. get_or A (to + i) 0) (λ i. get_or A₀ (index_end + i) 0) n
-          (λ i k. let q : to + i - to ≡ i = omega arith in c (to + i) 0 (omega arith) (omega arith) ∙ ap (λ j. get_or A₀ (index_end + j) 0) q);
+          rows_ext (λ i. get_or A (to + i) 0) (λ i. get_or A₀ (walk_at + i) 0) n
+          (λ i k. let q : to + i - to ≡ i = omega arith in c (to + i) 0 (omega arith) (omega arith) ∙ ap (λ j. get_or A₀ (walk_at + j) 0) q);
       below =
-          ap (take to) (e ∙ append_assoc (take to A₀) (take m (drop index_end A₀)) (drop (to + m) A₀))
-          ∙ take_at (take to A₀) (take m (drop index_end A₀) ++ drop (to + m) A₀) to (length-take-le to A₀ h);
+          ap (take to) (e ∙ append_assoc (take to A₀) (take m (drop walk_at A₀)) (drop (to + m) A₀))
+          ∙ take_at (take to A₀) (take m (drop walk_at A₀) ++ drop (to + m) A₀) to (length-take-le to A₀ h);
       above = λ i k. f i 0 (omega arith);
     }
 
@@ -59,7 +58,7 @@ module _ (W A₀ : List ℕ) (l : Layout) (from : ℕ) (s : Stack) (item : Item)
       → Gathered A₀ s.top (find_local_import_locations (snap_of W A₀ l) from (visited (levels_of A₀ s.place s.depth) item)) A n
   gathered_copy A {n} e c off =
       record {
-        run = c.run ∙ ap (λ z. run_at A₀ index_end z) e ∙ w.same ∙ walk_same (snap_of W A₀ l) from _ _ (λ m. sym (off m));
+        run = c.run ∙ ap (λ z. run_at A₀ walk_at z) e ∙ w.same ∙ walk_same (snap_of W A₀ l) from _ _ (λ m. sym (off m));
         below = c.below;
         above = c.above;
         few = omega (arith, e, w.few);
@@ -68,7 +67,7 @@ module _ (W A₀ : List ℕ) (l : Layout) (from : ℕ) (s : Stack) (item : Item)
 -- the walk was taken
 module _ (W A₀ : List ℕ) (l : Layout) (from : ℕ) (item : Item) (size : length A₀ ≡ area_limit) where
   pub kept_walk : (A : List ℕ) (n : ℕ) → length A ≡ length A₀
-      → Gathered A₀ index_end (find_local_import_locations (snap_of W A₀ l) from (visited (levels_of A₀ 0 0) item)) A n
+      → Gathered A₀ walk_at (find_local_import_locations (snap_of W A₀ l) from (visited (levels_of A₀ 0 0) item)) A n
       → Kept W A₀ l from (set A walk_count n)
   unfolding levels_of
   kept_walk A n long g =
@@ -77,11 +76,11 @@ module _ (W A₀ : List ℕ) (l : Layout) (from : ℕ) (item : Item) (size : len
       record {
         walked = record {
           same =
-              ap (λ z. run_at B index_end z) q
-              ∙ rows_ext _ _ n (λ i h. get_or-set_other A walk_count (index_end + i) n 0 (λ o. let f = g.few in omega arith))
+              ap (λ z. run_at B walk_at z) q
+              ∙ rows_ext _ _ n (λ i h. get_or-set_other A walk_count (walk_at + i) n 0 (λ o. let f = g.few in omega arith))
               ∙ g.run ∙ walk_same (snap_of W A₀ l) from _ _ (λ m. none_visited item m);
           few = omega (arith, q, g.few);
         };
-        below = take-set-le index_end A walk_count n (omega arith) ∙ g.below;
+        below = take-set-le walk_at A walk_count n (omega arith) ∙ g.below;
         above = λ i h. get_or-set_other A walk_count i n 0 (λ o. omega arith) ∙ g.above i (omega arith);
       }

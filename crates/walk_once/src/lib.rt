@@ -6,7 +6,6 @@ ghost use Rattle.snapshot.specs.Limits.{module_limit, area_limit};
 ghost use Rattle.snapshot.specs.Laid.{snap_by};
 ghost use Rattle.accept.specs.Post.{Reads};
 ghost use Rattle.find_path.specs.Walk.{visited, find_local_import_locations};
-ghost use Rattle.scope_index.specs.Index.{Indexed};
 ghost use Rattle.local_levels.specs.Levels.{levels_of, Chain};
 ghost use Rattle.local_levels.specs.Post.{Gathered};
 ghost use Rattle.walk_once.specs.Walked.{walk_end, Walked};
@@ -15,7 +14,6 @@ ghost use Rattle.walk_once.specs.Post.{Copied, Kept};
 use local_levels::levels::{any_level, code_of};
 use local_levels::locations::find_local_import_locations;
 use local_levels::{Sought, Stack};
-use scope_index::Index;
 use snapshot::ids::{Area, ModuleId};
 use snapshot::records::Records;
 use snapshot::words::word;
@@ -24,17 +22,16 @@ use snapshot::words::word;
 pub struct Walk;
 
 impl Walk {
-    pub const AT: usize = Index::END;
+    pub const AT: usize = 7616;
 
-    pub const COUNT: usize = 7744;
+    pub const COUNT: usize = 8128;
 
-    pub const END: usize = 7745;
+    pub const END: usize = 8129;
 }
 
 /// Takes the walk past no visited module.
 pub fn take_walk(records: &Records, area: &mut Area, from: ModuleId, sought: Sought)
-    requires { Reads records.now.words.now area.old records.now.layout × (from.0 < records.now.layout.modules)
-        × Indexed records.now.words.now records.now.layout 0 area.old }
+    requires { Reads records.now.words.now area.old records.now.layout × (from.0 < records.now.layout.modules) }
     ensures { Kept records.now.words.now area.old records.now.layout from.0 area.new }
 {
     let none = Stack {
@@ -75,8 +72,7 @@ pub fn locations(
     sought: Sought,
 ) -> usize
     requires { Reads records.now.words.now area.old records.now.layout × (from.0 < records.now.layout.modules) × (walk_end ≤ s.top) × (s.top + module_limit ≤ length area.old)
-        × Chain area.old s.place s.depth s.top × Walked (snap_by records.now area.old) from.0 area.old
-        × Indexed records.now.words.now records.now.layout 0 area.old }
+        × Chain area.old s.place s.depth s.top × Walked (snap_by records.now area.old) from.0 area.old }
     ensures { Gathered area.old s.top (find_local_import_locations (snap_by records.now area.old)
         from.0 (visited (levels_of area.old s.place s.depth) sought.item)) area.new result }
 {

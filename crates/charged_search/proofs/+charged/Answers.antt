@@ -156,8 +156,13 @@ find_in_dep-loop-next-preserved t c =
     imports_next a.records.now.words.now a.area.now g.area a.records.now.layout a.x a.left c.requires.0.ready c.requires.0.some
     g.invariant m c.find_import-best.ensures (omega (arith, c.find_import-best.array_long, c.told-area, g.invariant.long))
 
-pub find_in_dep-returns : goal.find_in_dep-returns
-find_in_dep-returns t c =
+pub find_in_dep-invariant_of-db : goal.find_in_dep-invariant_of-db
+find_in_dep-invariant_of-db t c =
+    let g = c.loop-next in
+    record { reads = (begun_later c.requires.0 g.invariant.tables g.invariant.long).ready.reads }
+
+pub find_in_dep-returns-in_default : goal.find_in_dep-returns-in_default
+find_in_dep-returns-in_default t c =
     let a = c.args in
     let g = c.loop-next in
     running_done g.invariant (imports_end a.records.now.words.now a.area.now g.area a.records.now.layout a.x a.left c.requires.0.ready
@@ -202,10 +207,15 @@ find_in_deps-loop-next-preserved t c =
     c.in-Some.is in
     let g = c.loop-next in
     deps_next a.records.now.words.now a.area.now g.area a.records.now.layout a.x a.left c.requires.0.ready c.requires.0.some a.item
-    g.invariant m c.dependency_crate.ensures c.find_in_dep-best.ensures (omega (arith, c.find_in_dep-best.array_long, c.told-area, g.invariant.long))
+    g.invariant m c.dependency_crate-c.ensures c.find_in_dep-best.ensures (omega (arith, c.find_in_dep-best.array_long, c.told-area, g.invariant.long))
 
-pub find_in_deps-returns : goal.find_in_deps-returns
-find_in_deps-returns t c =
+pub find_in_deps-invariant_of-db : goal.find_in_deps-invariant_of-db
+find_in_deps-invariant_of-db t c =
+    let g = c.loop-next in
+    record { reads = (begun_later c.requires.0 g.invariant.tables g.invariant.long).ready.reads }
+
+pub find_in_deps-returns-in_default : goal.find_in_deps-returns-in_default
+find_in_deps-returns-in_default t c =
     let a = c.args in
     let g = c.loop-next in
     running_done g.invariant (deps_end a.records.now.words.now a.area.now g.area a.records.now.layout a.x a.left c.requires.0.ready

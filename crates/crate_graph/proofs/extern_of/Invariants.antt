@@ -9,6 +9,6 @@ use Rattle.hir_def.specs.Nameres.{is_extern}
 use Rattle.crate_graph.proofs.extern_of.Given as goal
 
 abbrev pub invariant-loop-k : goal.invariant-loop-k
-invariant-loop-k l = (l.k ≤ l.initial.k)
-    × (first_of (is_extern l.c.0 l.m.0) (reverse (rows (λ i. extern_at l.records.words.now (l.base + extern_size * i)) 0 l.initial.k))
-    ≡ first_of (is_extern l.c.0 l.m.0) (reverse (rows (λ i. extern_at l.records.words.now (l.base + extern_size * i)) 0 l.k)))
+invariant-loop-k l = (l.k ≤ l.db.records.layout.externs)
+    × (first_of (is_extern l.c.0 l.m.0) (reverse (rows (λ i. extern_at l.db.records.words.now (l.base + extern_size * i)) 0 l.db.records.layout.externs))
+    ≡ first_of (is_extern l.c.0 l.m.0) (reverse (rows (λ i. extern_at l.db.records.words.now (l.base + extern_size * i)) 0 l.k)))

@@ -1,10 +1,18 @@
 use Rattle.std.proofs.Common.{rules}
 use Rattle.snapshot.specs.Records.{dependency_at}
-use Rattle.hir_def.proofs.Searches.{next_in}
+use Rattle.hir_def.proofs.Searches.{next_in, only_agree}
+use Rattle.hir_def.proofs.Parts.{dependency_owner, dependencies_inside}
 use Rattle.crate_graph.specs.Among.{among}
+use Rattle.crate_graph.proofs.Others.{others_among}
 use Rattle.crate_graph.proofs.next_dependency.Goals as goal
 
 pub returns : goal.returns
 returns c =
-    next_in (among c.args.c.0 c.args.which) dependency_at c.args.records.now.words.now c.dependencies.ensures
-    (λ h t p. search rules) _ _ c.next_where.ensures
+    let W = c.args.db.now.records.words.now in
+    let q = among c.args.c.0 c.args.which in
+    next_in q dependency_at W c.dependencies.ensures
+    (only_agree (dependency_owner W) c.args.c.0 q (dependency_at W) _ (λ h. others_among c.args.c.0 c.args.which (dependency_at W h)) (λ h t p. search rules))
+    _ _
+    (c.next_within.ensures (dependency_owner W) c.args.c.0
+    (dependencies_inside W c.args.db.now.area.now c.args.db.now.records.layout c.args.db.now.reads c.args.c.0 c.part_of-part.result c.dependencies.ensures
+    c.part_of-part.ensures))

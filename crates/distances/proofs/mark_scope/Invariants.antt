@@ -1,5 +1,10 @@
-use Rattle.distances.proofs.Marking.{Marking}
+use Prim.Native.Nat.{◌-◌}
+use Rattle.distances.proofs.Marking.{Along, marks}
 use Rattle.distances.proofs.mark_scope.Given as goal
 
-abbrev pub invariant-loop-k : goal.invariant-loop-k
-invariant-loop-k l = Marking l.records.words.now l.initial.area l.records.layout l.c.0 l.area l.k
+abbrev pub invariant-loop-next : goal.invariant-loop-next
+invariant-loop-next l =
+    Along l.records.words.now l.initial.area l.records.layout l.c.0 (marks l.records.words.now l.initial.area l.records.layout) l.area l.k
+
+abbrev pub decreases-loop-next : goal.decreases-loop-next
+decreases-loop-next l = l.records.layout.scopes - l.k

@@ -1,29 +1,33 @@
-use mathlib.Core.Path.{refl}
+use mathlib.Core.Path.{◌≡◌, refl, subst, ◌∙◌, sym}
 use native.Mathlib.Omega.{arith}
-use Rattle.hir_def.proofs.Fits.{scope_fits}
-use Rattle.distances.proofs.Lowering.{lowers_numbered}
-use Rattle.distances.proofs.Relaxing.{relaxing_start, relaxing_next, relaxing_done}
+use Rattle.snapshot.specs.Layouts.{snap_of}
+use Rattle.distances.specs.Post.{Round}
+use Rattle.distances.proofs.Lowering.{lowers_ready}
+use Rattle.distances.proofs.Relaxing.{round_start, round_next}
 use Rattle.distances.proofs.relax.Goals as goal
 
-pub loop-k-init : goal.loop-k-init
-loop-k-init c =
-    relaxing_start c.args.records.now.words.now c.args.area.now c.args.records.now.layout c.args.x
+pub loop-m-init : goal.loop-m-init
+loop-m-init c =
+    (round_start c.args.records.now.words.now c.args.area.now c.args.records.now.layout c.args.x c.args.d, refl, omega arith)
 
-pub relax_entry-r-requires : goal.relax_entry-r-requires
-relax_entry-r-requires c = (
-  lowers_numbered c.args.records.now.words.now c.args.records.now.layout c.loop-k.invariant.lowers c.requires.0 c.loop-k.invariant.size,
+pub relax_at-r-requires : goal.relax_at-r-requires
+relax_at-r-requires c = (
+  lowers_ready c.args.records.now.words.now c.args.records.now.layout c.loop-m.invariant.0.steps.lowers c.requires.0 c.loop-m.invariant.1,
   c.requires.1,
-  scope_fits c.args.records.now.words.now c.args.area.now c.args.records.now.layout c.requires.0.ready.reads c.loop-k-test.true
-      c.scope_base-base.ensures refl,
+  c.loop-m-test.true,
+  c.requires.2,
 )
 
-pub loop-k-preserved : goal.loop-k-preserved
-loop-k-preserved c =
-    relaxing_next c.args.records.now.words.now c.args.area.now c.args.records.now.layout c.args.x c.requires.0.ready.reads c.loop-k.area
-    c.loop-k.changed c.loop-k.k c.loop-k.invariant
-    _ c.loop-k-test.true c.scope_base-base.ensures refl c.relax_entry-r.ensures c.relax_entry-r.auto.area
+pub loop-m-preserved : goal.loop-m-preserved
+loop-m-preserved c = (
+  round_next c.args.records.now.words.now c.args.area.now c.args.records.now.layout c.args.x c.args.d c.requires.0.reads c.loop-m.invariant.0
+      c.relax_at-r.ensures,
+  omega (arith, c.relax_at-r.array_long, c.told-area, c.loop-m.invariant.1),
+  omega (arith, c.loop-m-test.true),
+)
 
 pub returns : goal.returns
 returns c =
-    relaxing_done c.args.records.now.words.now c.args.area.now c.args.records.now.layout c.args.x c.requires.0.ready.reads c.loop-k.area
-    c.loop-k.changed c.loop-k.k c.loop-k.invariant (omega (arith, c.loop-k-test.false))
+    let e : c.loop-m.m ≡ c.args.records.now.layout.modules = omega (arith, c.loop-m.invariant.2, c.loop-m-test.false) in
+    subst (λ n. Round (snap_of c.args.records.now.words.now c.args.area.now c.args.records.now.layout) c.args.x c.args.area.now n c.args.d c.loop-m.area
+    c.loop-m.more) e c.loop-m.invariant.0

@@ -1,5 +1,11 @@
-use Rattle.distances.proofs.Relaxing.{Relaxing}
+use Prim.Native.Nat.{◌≤◌}
+use mathlib.Core.Path.{◌≡◌}
+use lib.ListN.{length}
+use Rattle.snapshot.specs.Laid.{snap_by}
+use Rattle.distances.specs.Post.{Round}
 use Rattle.distances.proofs.relax.Given as goal
 
-abbrev pub invariant-loop-k : goal.invariant-loop-k
-invariant-loop-k l = Relaxing l.records.words.now l.initial.area l.records.layout l.x l.area l.changed l.k
+abbrev pub invariant-loop-m : goal.invariant-loop-m
+invariant-loop-m l =
+    Round (snap_by l.records l.initial.area) l.x l.initial.area l.m l.d l.area l.more × (length l.area ≡ length l.initial.area)
+    × (l.m ≤ l.records.layout.modules)

@@ -1,45 +1,45 @@
+use Prim.Native.Nat.{◌<◌}
+use mathlib.Core.Path.{ap, ◌∙◌}
 use native.Mathlib.Omega.{arith}
-use Rattle.distances.proofs.Relaxing.{step_read, step_far, step_below, step_plain, step_low, step_hidden, step_set}
+use Rattle.snapshot.specs.Limits.{module_limit}
+use Rattle.snapshot.specs.Records.{scope_at}
+use Rattle.snapshot.specs.Layouts.{snap_of}
+use Rattle.hir_def.specs.Items.{definition_of}
+use Rattle.distances.specs.Distances.{distance}
+use Rattle.distances.proofs.Relaxing.{steps_none, steps_set, set_here, nearer_low, nearer_hidden, nearer_here}
 use Rattle.distances.proofs.relax_entry.Goals as goal
-
-pub overflow_add-d : goal.overflow_add-d
-overflow_add-d c =
-    let far = c.requires.0.far c.scope_owner-owner.result.0 (rw c.scope_owner-owner.ensures c.requires.2.owner) in
-    record { fits = omega (arith, c.word-d.ensures, far) }
-
-pub returns-then-d-ge-FAR : goal.returns-then-d-ge-FAR
-returns-then-d-ge-FAR c =
-    step_far c.args.records.now.words.now c.args.area.now c.args.records.now.layout c.args.x c.args.h c.scope_owner-owner.ensures c.word-d.ensures
-    c.requires.0.ready.reads c.requires.0.far c.requires.2 c.if-d-ge-FAR.true
-
-pub returns-in_default : goal.returns-in_default
-returns-in_default c =
-    let v = step_read c.args.records.now.words.now c.args.area.now c.args.records.now.layout c.args.h c.scope_owner-owner.ensures c.word-d.ensures
-    (c.item_at.ensures c.args.area.now) in
-    step_plain c.args.x v c.in_default.is
-
-pub overflow_add-at : goal.overflow_add-at
-overflow_add-at c =
-    let v = step_read c.args.records.now.words.now c.args.area.now c.args.records.now.layout c.args.h c.scope_owner-owner.ensures c.word-d.ensures
-    (c.item_at.ensures c.args.area.now) in
-    let b = step_below c.args.x v c.requires.0.ready.reads c.requires.2 c.in-Mod.is in
-    record { fits = omega (arith, b) }
 
 pub returns-then-word-d : goal.returns-then-word-d
 returns-then-word-d c =
-    let v = step_read c.args.records.now.words.now c.args.area.now c.args.records.now.layout c.args.h c.scope_owner-owner.ensures c.word-d.ensures
-    (c.item_at.ensures c.args.area.now) in
-    step_low c.args.x v c.in-Mod.is c.word.ensures c.if-word-d.true
+    let W = c.args.records.now.words.now in
+    let A = c.args.area.now in
+    let s = snap_of W A c.args.records.now.layout in
+    let t = c.first_of-m.ensures A ∙ ap (λ y. (definition_of s y).first) c.scope_definition.ensures in
+    (steps_none A c.args.d, nearer_low s c.args.x A c.args.d (scope_at W c.args.h) t c.word.ensures c.if-word-d.true)
 
 pub returns-then-not-is_importable : goal.returns-then-not-is_importable
 returns-then-not-is_importable c =
-    let v = step_read c.args.records.now.words.now c.args.area.now c.args.records.now.layout c.args.h c.scope_owner-owner.ensures c.word-d.ensures
-    (c.item_at.ensures c.args.area.now) in
-    step_hidden c.args.x v c.in-Mod.is c.is_importable.ensures c.if-not-is_importable.true
+    let W = c.args.records.now.words.now in
+    let A = c.args.area.now in
+    let s = snap_of W A c.args.records.now.layout in
+    let t = c.first_of-m.ensures A ∙ ap (λ y. (definition_of s y).first) c.scope_definition.ensures in
+    (steps_none A c.args.d, nearer_hidden s c.args.x A c.args.d (scope_at W c.args.h) t c.is_importable.ensures c.if-not-is_importable.true)
+
+pub bounds-area-at : goal.bounds-area-at
+bounds-area-at c =
+    let A = c.args.area.now in
+    let s = snap_of c.args.records.now.words.now A c.args.records.now.layout in
+    let t = c.first_of-m.ensures A ∙ ap (λ y. (definition_of s y).first) c.scope_definition.ensures in
+    omega (arith, t, c.requires.3, c.requires.0.reads.tables.limited.modules, c.told-area)
 
 pub returns : goal.returns
 returns c =
-    let v = step_read c.args.records.now.words.now c.args.area.now c.args.records.now.layout c.args.h c.scope_owner-owner.ensures c.word-d.ensures
-    (c.item_at.ensures c.args.area.now) in
-    let b = step_below c.args.x v c.requires.0.ready.reads c.requires.2 c.in-Mod.is in
-    step_set c.args.x v c.in-Mod.is c.requires.0.ready.area b c.word.ensures (λ h. omega (arith, c.if-word-d.false, h))
+    let W = c.args.records.now.words.now in
+    let A = c.args.area.now in
+    let s = snap_of W A c.args.records.now.layout in
+    let t = c.first_of-m.ensures A ∙ ap (λ y. (definition_of s y).first) c.scope_definition.ensures in
+    let known : c.first_of-m.result < module_limit = omega (arith, t, c.requires.3, c.requires.0.reads.tables.limited.modules) in
+    let more : c.args.d < distance A c.first_of-m.result = omega (arith, c.word.ensures, c.if-word-d.false) in (
+      steps_set A c.first_of-m.result c.args.d c.requires.0.area known c.requires.4 more,
+      nearer_here s c.args.x A c.args.d (scope_at W c.args.h) t c.requires.0.area known c.requires.4 more,
+    )

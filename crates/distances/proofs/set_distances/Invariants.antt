@@ -1,8 +1,5 @@
-use Rattle.distances.proofs.Relaxing.{weight, Settling}
+use Rattle.distances.proofs.Relaxing.{Settling}
 use Rattle.distances.proofs.set_distances.Given as goal
 
-abbrev pub invariant-loop-x : goal.invariant-loop-x
-invariant-loop-x l = Settling l.records.words.now l.initial.area l.records.layout l.x l.area
-
-abbrev pub decreases-loop-x : goal.decreases-loop-x
-decreases-loop-x l = weight l.area
+abbrev pub invariant-loop-d : goal.invariant-loop-d
+invariant-loop-d l = Settling l.records.words.now l.initial.area l.records.layout l.x l.area l.d

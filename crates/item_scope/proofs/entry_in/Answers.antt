@@ -6,8 +6,8 @@ use Rattle.item_scope.proofs.entry_in.Goals as goal
 
 pub returns-then-fresh : goal.returns-then-fresh
 returns-then-fresh c =
-    let W = c.args.records.now.words.now in
-    let l = c.args.records.now.layout in
+    let W = c.args.db.now.records.words.now in
+    let l = c.args.db.now.records.layout in
     let m = c.args.m.0 in
     let d = c.args.declared in (
       λ A. c.fresh_of.ensures.0 A ∙ sym (ap (λ b. entry_in (snap_of W A l) c.args.item d b m) c.if-fresh.true),
@@ -19,8 +19,8 @@ returns-then-fresh c =
 pub returns : goal.returns
 unfolding preferred preferred_reads
 returns c =
-    let W = c.args.records.now.words.now in
-    let l = c.args.records.now.layout in
+    let W = c.args.db.now.records.words.now in
+    let l = c.args.db.now.records.layout in
     let m = c.args.m.0 in
     let d = c.args.declared in (
       λ A. c.names_of.ensures.0 A ∙ sym (ap (λ b. entry_in (snap_of W A l) c.args.item d b m) c.if-fresh.false),

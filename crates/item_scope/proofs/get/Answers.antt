@@ -1,12 +1,29 @@
+use mathlib.Core.Path.{refl, sym, ap, ◌∙◌, subst}
+use Rattle.std.specs.Prelude.{Some, None}
 use Rattle.std.proofs.Common.{rules}
 use Rattle.snapshot.specs.Records.{scope_at}
+use Rattle.hir_def.specs.Entries.{entry_of}
 use Rattle.hir_def.specs.ItemScope.{is_named, get as entry_named}
-use Rattle.hir_def.proofs.Searches.{first_in}
+use Rattle.hir_def.proofs.Searches.{found_by, none_by, only_agree}
+use Rattle.item_scope.specs.Owners.{owner_of}
+use Rattle.item_scope.proofs.Along.{named_within}
 use Rattle.item_scope.proofs.get.Goals as goal
 
 pub returns : goal.returns
 unfolding entry_named
 returns c =
+    let W = c.args.db.now.records.words.now in
+    let test = is_named c.args.m.0 c.args.ns c.args.name.0 in
     λ A.
-    first_in (is_named c.args.m.0 c.args.ns c.args.name.0) scope_at c.args.records.now.words.now c.scopes.ensures
-    (λ h t p. search rules) _ c.first_where.ensures
+    (found_by test scope_at W _ _ refl (only_agree (owner_of W) c.args.m.0 test (scope_at W) _ (λ h. named_within _ _ _ (scope_at W h)) (λ h t p. search rules)) c.next_in_scope.ensures
+    c.in_ok-found.was).0
+
+pub returns-in_err-found : goal.returns-in_err-found
+unfolding entry_named
+returns-in_err-found c =
+    let W = c.args.db.now.records.words.now in
+    let test = is_named c.args.m.0 c.args.ns c.args.name.0 in
+    λ A.
+    ap (entry_of scope_at W) c.from_residual.ensures
+    ∙ (none_by test scope_at W _ _ refl (only_agree (owner_of W) c.args.m.0 test (scope_at W) _ (λ h. named_within _ _ _ (scope_at W h)) (λ h t p. search rules)) c.next_in_scope.ensures
+    c.in_err-found.was).0

@@ -1,12 +1,16 @@
+use mathlib.Core.Path.{refl}
 use Rattle.std.proofs.Common.{rules}
 use Rattle.snapshot.specs.Layouts.{snap_of}
 use Rattle.snapshot.specs.Records.{scope_at}
 use Rattle.hir_def.specs.ItemScope.{is_module_entry}
-use Rattle.hir_def.proofs.Searches.{next_in}
+use Rattle.hir_def.proofs.Searches.{next_by, only_agree}
+use Rattle.item_scope.specs.Owners.{owner_of}
+use Rattle.item_scope.proofs.Along.{module_within}
 use Rattle.item_scope.proofs.modules_in_scope.Goals as goal
 
 pub returns : goal.returns
 returns c =
     λ A.
-    next_in (is_module_entry (snap_of c.args.records.now.words.now A c.args.records.now.layout) c.args.m.0) scope_at c.args.records.now.words.now c.scopes.ensures
-    (λ h t p. search rules) _ _ c.next_where.ensures
+    let W = c.args.db.now.records.words.now in
+    let test = is_module_entry (snap_of W A c.args.db.now.records.layout) c.args.m.0 in
+    next_by test scope_at W _ _ refl (only_agree (owner_of W) c.args.m.0 test (scope_at W) _ (λ h. module_within W A c.args.db.now.records.layout _ (scope_at W h)) (λ h t p. search rules)) _ _ c.next_in_scope.ensures

@@ -4,7 +4,7 @@ use lib.ListN.{length-set}
 use Rattle.snapshot.specs.Records.{scope_at}
 use Rattle.local_levels.specs.Levels.{levels_of}
 use Rattle.local_levels.proofs.Stacks.{chain_wider}
-use Rattle.local_search.proofs.Nests.{room, head_reads, head_chains, head_walked, head_space, head_chain, start_few, nesting_start}
+use Rattle.local_search.proofs.Nests.{room, head_reads, head_walked, head_space, head_chain, start_few, nesting_start}
 use Rattle.local_search.proofs.Nests.{loop_size, nesting_call, nesting_known, nesting_next, nesting_done}
 use Rattle.local_search.proofs.Searches.{module_small, search_none, search_rules, search_on, unruled, location_far, location_none}
 use Rattle.local_search.proofs.Searches.{location_shorter, location_call, location_reads, location_few, location_text, location_steps}
@@ -103,8 +103,6 @@ local_at-locations-n-requires t c = (
       c.args.sought.item c.args.s c.requires.0 c.requires.1 c.args.sought.small c.code_of-code.result c.code_of-code.ensures.0,
   head_walked c.args.records.now.words.now c.args.area.now c.args.records.now.layout c.args.x c.args.left
       c.args.sought.item c.args.s c.requires.0 c.requires.1 c.args.sought.small c.code_of-code.result c.code_of-code.ensures.0,
-  head_chains c.args.records.now.words.now c.args.area.now c.args.records.now.layout c.args.x c.args.left c.args.sought.item
-      c.args.s c.requires.0 c.requires.1 c.args.sought.small c.code_of-code.result c.code_of-code.ensures.0,
 )
 
 pub local_at-overflow_add-up : goal.local_at-overflow_add-up

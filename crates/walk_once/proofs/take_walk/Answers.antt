@@ -5,7 +5,7 @@ use Rattle.walk_once.proofs.take_walk.Goals as goal
 
 pub find_local_import_locations-n-requires : goal.find_local_import_locations-n-requires
 find_local_import_locations-n-requires c =
-    (c.requires.0, c.requires.1, omega arith, omega (arith, c.told-area), chain_none c.args.area.now 0 7232, omega arith, c.requires.2)
+    (c.requires.0, c.requires.1, omega arith, omega (arith, c.told-area), chain_none c.args.area.now 0 7616)
 
 pub returns : goal.returns
 returns c =

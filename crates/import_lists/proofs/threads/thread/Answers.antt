@@ -14,7 +14,7 @@ pub thread_entries-requires : goal.thread_entries-requires
 thread_entries-requires c =
     let t = (
     entries_required c.requires c.gather-n.ensures
-    c.sort.ensures c.clear.ensures
+    c.sort.ensures (rw c.member_links_base.ensures at c.clear.ensures)
     c.clear.auto.area) in
     record { area_len = t.0.1; by_index = t.1 }
 
@@ -24,7 +24,7 @@ thread_members-requires c =
     members_required c.requires
     c.gather-n.ensures
     c.sort.ensures
-    c.clear.ensures c.clear.auto.area
+    (rw c.member_links_base.ensures at c.clear.ensures) c.clear.auto.area
     c.thread_entries.ensures) in
     record { area_len = (t.0.1, t.0.2); by_index = t.1 }
 
@@ -33,6 +33,6 @@ returns c = threaded_all
     c.requires
     c.gather-n.ensures
     c.sort.ensures
-    c.clear.ensures
+    (rw c.member_links_base.ensures at c.clear.ensures)
     c.clear.auto.area
     c.thread_entries.ensures c.thread_members.ensures

@@ -5,4 +5,4 @@ use Rattle.import_lists.proofs.threads.thread_members.Given as goal
 
 abbrev pub invariant-loop-j : goal.invariant-loop-j
 invariant-loop-j l = (l.j ≤ l.count)
-    × Threads 2048 8768 10816 (λ i. (member_at l.records.words.now (l.base + 5 * (l.count - 1 - i))).parent) l.j l.initial.area l.area
+    × Threads l.records.layout.definitions l.heads l.links (λ i. (member_at l.records.words.now (l.base + 5 * (l.count - 1 - i))).parent) l.j l.initial.area l.area

@@ -28,9 +28,7 @@ overflow_cast-area c =
     omega (arith, c.requires.0.ready.reads.tables.limited.modules)
 
 pub pile_base-requires : goal.pile_base-requires
-pile_base-requires c =
-    let h = few_words c.requires.0.ready in
-    (omega arith, omega arith)
+pile_base-requires c = omega (arith, few_words c.requires.0.ready)
 
 pub offset_bounds-area-pile_base : goal.offset_bounds-area-pile_base
 offset_bounds-area-pile_base c = omega (

@@ -1,6 +1,7 @@
 use Prim.Native.Nat.{◌+◌, ◌≤◌}
 use mathlib.Core.Path.{refl}
 use native.Mathlib.Omega.{arith}
+use Rattle.import_order.specs.Rooms.{heads_room}
 use Rattle.import_order.proofs.Merges.{merging_start, merging_yes, merging_no, merged, runs_ready, runs_order, copied_ready}
 use Rattle.import_order.proofs.sort.merge.Goals as goal
 
@@ -24,5 +25,5 @@ loop-i-preserved c =
 
 pub returns : goal.returns
 returns c =
-    let h : c.args.from + c.args.m + c.args.n ≤ 6208 = omega arith in
+    let h : c.args.from + c.args.m + c.args.n ≤ heads_room = omega arith in
     merged c.requires.0 h c.loop-i-test.false c.copy.ensures c.loop-i.invariant

@@ -1,11 +1,12 @@
 use Prim.Native.Nat.{◌+◌, ◌-◌}
 use Rattle.import_order.specs.Lists.{order_of, entries_at, merge_by}
+use Rattle.import_order.specs.Rooms.{spare_room}
 use Rattle.import_order.proofs.Merges.{Merging}
 use Rattle.import_order.proofs.sort.merge.Given as goal
 
 abbrev pub invariant-loop-i : goal.invariant-loop-i
 invariant-loop-i l =
-    Merging l.records.words.now (order_of l.records.words.now l.initial.area l.records.layout) (merge_by (order_of l.records.words.now l.initial.area l.records.layout) (entries_at l.records.words.now l.initial.area 6720 l.m) (entries_at l.records.words.now l.initial.area (l.from + l.m) l.n))
+    Merging l.records.words.now (order_of l.records.words.now l.initial.area l.records.layout) (merge_by (order_of l.records.words.now l.initial.area l.records.layout) (entries_at l.records.words.now l.initial.area spare_room l.m) (entries_at l.records.words.now l.initial.area (l.from + l.m) l.n))
     l.initial.area l.area l.from l.m l.n l.i l.j
 
 abbrev pub decreases-loop-i : goal.decreases-loop-i

@@ -1,5 +1,4 @@
 use mathlib.Core.Path.{◌∙◌}
-use Rattle.local_levels.proofs.Stacks.{chains_at}
 use Rattle.local_levels.proofs.Gathers.{ready_start, ready_children, reads_children, ready_begun, reads_begun, begun, walking_start}
 use Rattle.local_levels.proofs.Gathers.{walking_reads, walking_next, gathered}
 use Rattle.local_levels.proofs.locations.find_local_import_locations.Goals as goal
@@ -34,10 +33,6 @@ push_next-n-requires c = (
       c.push_containers-n.ensures c.push_containers-n.auto.area) c.loop-k.area c.loop-k.n c.loop-k.k c.loop-k.invariant,
   c.requires.1,
   c.loop-k.invariant.ready,
-  c.requires.5,
-  chains_at c.args.records.now.words.now c.args.area.now c.loop-k.area
-      c.args.records.now.layout c.args.s.top c.requires.0 c.requires.5 (c.loop-k.invariant.below ∙ c.push_containers-n.ensures.below
-      ∙ c.push_children-children.ensures.below) c.requires.6,
 )
 
 pub loop-k-preserved : goal.loop-k-preserved

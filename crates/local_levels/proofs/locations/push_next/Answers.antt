@@ -8,9 +8,9 @@ use Rattle.hir_def.specs.Items.{crate_of, definition_of}
 use Rattle.tree_rules.specs.Visibility.{sees}
 use Rattle.hir_def.proofs.Lookups.{next_record, next_none}
 use Rattle.hir_def.proofs.Fits.{few_words, module_meets}
-use Rattle.scope_index.proofs.Chaining.{accepted_sized}
-use Rattle.local_levels.proofs.Stacks.{snap_at, reads_at, chains_at, pushing_start, pushing_skip, pushing_next, pushing_done}
-use Rattle.local_levels.proofs.Nexts.{leads_start, leads_hit, leads_miss, leads_follow, leads_end, leads_below}
+use Rattle.local_levels.proofs.Stacks.{snap_at, reads_at, pushing_start, pushing_skip, pushing_next, pushing_done}
+use Rattle.item_scope.proofs.Along.{met_follows, met_below}
+use Rattle.local_levels.proofs.Nexts.{leads_start, leads_hit, leads_miss, leads_end}
 use Rattle.local_levels.proofs.locations.push_next.Goals as goal
 use Rattle.local_levels.proofs.locations.push_next.Goals.{then-leads, else-leads}
 
@@ -22,17 +22,8 @@ loop-next-init c = (
   λ h. absurd (omega arith),
 )
 
-pub modules_from-requires : goal.modules_from-requires
-modules_from-requires c =
-    let l = c.loop-next in
-    let W = c.args.records.now.words.now in
-    let A = c.args.area.now in (
-      accepted_sized W A c.args.records.now.layout c.requires.0,
-      l.invariant.1,
-      l.invariant.2,
-      chains_at W A l.area c.args.records.now.layout c.args.s.top
-          c.requires.0 c.requires.3 l.invariant.0.below c.requires.4,
-    )
+pub modules_in_scope-requires : goal.modules_in_scope-requires
+modules_in_scope-requires c = (c.loop-next.invariant.1, c.loop-next.invariant.2)
 
 pub invariant_of-db : goal.invariant_of-db
 invariant_of-db c =
@@ -42,11 +33,10 @@ pub leads-requires : goal.leads-requires
 leads-requires c =
     let W = c.args.records.now.words.now in
     let A = c.args.area.now in
-    let x = next_record (c.modules_from.ensures A) c.in-Some.is in
+    let x = next_record (c.modules_in_scope.ensures A) c.in-Some.is in
     let t = c.first_of.ensures A ∙ ap (λ y. (definition_of (snap_of W A c.args.records.now.layout) y).first) c.scope_definition.ensures in (
       c.requires.1,
-      leads_below
-          W A c.args.records.now.layout c.args.from.0 c.args.m.0 x c.requires.0 t,
+      met_below W A c.args.records.now.layout c.args.m.0 x c.requires.0 t,
       (module_meets W A c.args.records.now.layout c.requires.0 x).inside,
     )
 
@@ -55,14 +45,13 @@ push_module-run-requires c =
     let l = c.loop-next in
     let W = c.args.records.now.words.now in
     let A = c.args.area.now in
-    let x = next_record (c.modules_from.ensures A) c.in-Some.is in
+    let x = next_record (c.modules_in_scope.ensures A) c.in-Some.is in
     let t = c.first_of.ensures A ∙ ap (λ y. (definition_of (snap_of W A c.args.records.now.layout) y).first) c.scope_definition.ensures in (
       l.invariant.0.ready,
       omega (
         arith,
         c.requires.0.tables.limited.modules,
-        leads_below W A c.args.records.now.layout c.args.from.0
-            c.args.m.0 x c.requires.0 t,
+        met_below W A c.args.records.now.layout c.args.m.0 x c.requires.0 t,
       ),
     )
 
@@ -71,7 +60,7 @@ overflow_add-k c =
     let l = c.loop-next in
     let W = c.args.records.now.words.now in
     let A = c.args.area.now in
-    let x = next_record (c.modules_from.ensures A) c.in-Some.is in
+    let x = next_record (c.modules_in_scope.ensures A) c.in-Some.is in
     record { fits = omega (arith, x.below, few_words W A c.args.records.now.layout c.requires.0) }
 
 pub loop-next-smaller : goal.loop-next-smaller
@@ -79,7 +68,7 @@ loop-next-smaller c =
     let l = c.loop-next in
     let W = c.args.records.now.words.now in
     let A = c.args.area.now in
-    let x = next_record (c.modules_from.ensures A) c.in-Some.is in
+    let x = next_record (c.modules_in_scope.ensures A) c.in-Some.is in
     omega (arith, x.below, x.from)
 
 pub loop-next-preserved : goal.loop-next-preserved
@@ -87,12 +76,12 @@ loop-next-preserved c =
     let l = c.loop-next in
     let W = c.args.records.now.words.now in
     let A = c.args.area.now in
-    let x = next_record (c.modules_from.ensures A) c.in-Some.is in
+    let x = next_record (c.modules_in_scope.ensures A) c.in-Some.is in
     let t = c.first_of.ensures A ∙ ap (λ y. (definition_of (snap_of W A c.args.records.now.layout) y).first) c.scope_definition.ensures in
     let q = c.leads.ensures ∙ ap (λ y. eqb (crate_of y c.first_of.result) (crate_of y c.args.from.0) && sees y
     c.args.from.0 (scope_at W c.in-Some.next.head)) (snap_at W A l.area c.args.records.now.layout c.args.s.top c.requires.0
     c.requires.2.tables l.invariant.0.below) in
-    let k = leads_follow W A c.args.records.now.layout c.args.from.0 c.args.m.0 x in (
+    let k = met_follows W A c.args.records.now.layout c.args.m.0 x in (
       elim c.if-leads.branch [
         | then-leads w ↦ pushing_skip _ _ _ _ _ (pushing_next _ _ _ _ _ l.invariant.0 (leads_hit W A c.args.records.now.layout c.args.from.0
             c.args.m.0 x t q w.if-leads.true) w.push_module-run.ensures w.push_module-run.auto.area) refl w.area-is w.run-is
@@ -103,8 +92,8 @@ loop-next-preserved c =
       k,
     )
 
-pub returns : goal.returns
-returns c =
+pub returns-in_default : goal.returns-in_default
+returns-in_default c =
     let A = c.args.area.now in
     pushing_done _ _ _ _ _ c.loop-next.invariant.0 (leads_end c.args.records.now.words.now A c.args.records.now.layout c.args.from.0
-    c.args.m.0 (next_none (c.modules_from.ensures A) c.in_default.is))
+    c.args.m.0 (next_none (c.modules_in_scope.ensures A) c.in_default.is))

@@ -1,5 +1,5 @@
 use Prim.Native.Nat.{◌-◌, ◌≤◌}
-use Rattle.scope_index.specs.Index.{Follows}
+use Rattle.record_index.specs.Index.{Follows}
 use Rattle.find_path.specs.Walk.{leads_to}
 use Rattle.local_levels.proofs.Stacks.{Pushing}
 use Rattle.local_levels.proofs.Nexts.{leads_from}

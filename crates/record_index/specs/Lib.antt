@@ -1,0 +1,3 @@
+pub mod Index
+pub mod Post
+pub mod Ranges
