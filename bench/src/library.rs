@@ -30,7 +30,7 @@ fn asked(question: &Question) -> kelumavor::Question {
     let prefix = [Prefix::BySelf, Prefix::Plain, Prefix::ByCrate][question.prefix as usize];
     kelumavor::Question::new(Namespace::Types, DefinitionId(question.definition), ModuleId(question.from))
         .prefix(prefix)
-        .fuel(Question::FUEL)
+        .fuel(Question::MAX_FUEL)
 }
 
 fn answer(report: &Report) -> Answer {
@@ -72,7 +72,7 @@ impl Checking {
     /// Puts questions in one call.
     pub fn put_all(&mut self, questions: &[Question]) -> Vec<Answer> {
         let words = |question: &Question| -> [u32; QUESTION] {
-            [0, question.definition, question.from, question.prefix, 0, Question::FUEL, 15]
+            [0, question.definition, question.from, question.prefix, 0, Question::MAX_FUEL, 15]
         };
         let asked: Vec<u32> = questions.iter().flat_map(words).collect();
         let mut reports = vec![0; REPORT * questions.len()];

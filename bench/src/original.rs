@@ -21,7 +21,7 @@ impl Answers for Original {
             from: question.from as usize,
             prefix: question.prefix as usize,
             options: 0,
-            fuel: Question::FUEL as usize,
+            fuel: Question::MAX_FUEL as usize,
             limit: 15,
         });
         Answer { found: answer.path.is_some(), charges: answer.charges as u32, empty: answer.empty }

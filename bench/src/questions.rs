@@ -12,7 +12,7 @@ pub struct Question {
 }
 
 impl Question {
-    pub const FUEL: u32 = 10_000;
+    pub const MAX_FUEL: u32 = 10_000;
 }
 
 #[derive(Clone, Copy, Debug, PartialEq, Eq)]
@@ -81,7 +81,7 @@ pub fn input(shape: &str, count: usize) -> Option<Vec<u8>> {
     let every = (questions(&shape).count() / count.max(1)).max(1);
     let mut words = shape.words.clone();
     for question in questions(&shape).step_by(every).take(count) {
-        let asked = [12 << 28 | question.definition, 0, question.from, question.prefix, 0, Question::FUEL, 15];
+        let asked = [12 << 28 | question.definition, 0, question.from, question.prefix, 0, Question::MAX_FUEL, 15];
         words.extend::<[u32; WORDS]>(asked);
     }
     Some(words.iter().flat_map(|word| word.to_le_bytes()).collect())

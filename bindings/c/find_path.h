@@ -217,7 +217,7 @@ size_t kelumavor_find_paths_checked(const uint32_t *words, size_t words_len, uin
 #define KELUMAVOR_STATE (1 + KELUMAVOR_WINDOWS * (1 + KELUMAVOR_QUESTION))
 
 /* Places a question for a window. Answers 0, or the number by which it is refused, with the state unchanged: 49 for a window above 7,
- * 50 for one whose question waits already. */
+ * 50 for one whose question waits already. Takes no area. */
 size_t kelumavor_place(uint32_t state[KELUMAVOR_STATE], size_t window, const uint32_t question[KELUMAVOR_QUESTION]);
 
 /* Serves the next window that waits, counting round from the one after that served last: writes the report that kelumavor_find_path
@@ -283,11 +283,11 @@ size_t kelumavor_join_numbers(const uint32_t *first, size_t first_len, const uin
                               size_t area_len);
 
 /* The number in the joined snapshot of a name and of a definition of the second, below how many it has, from the area that kelumavor_join_numbers
- * left. Nothing is written. */
+ * left. It is read alone. */
 size_t kelumavor_new_name(const uint32_t *area, size_t area_len, size_t name);
 size_t kelumavor_new_definition(const uint32_t *area, size_t area_len, size_t definition);
 
-/* The same of a crate, a map and a module of the second: the first has so many, as kelumavor_check writes. */
+/* The same of a crate, a map and a module of the second: the first has so many, as kelumavor_check writes. They take no area. */
 size_t kelumavor_new_crate(size_t first, size_t number);
 size_t kelumavor_new_map(size_t first, size_t number);
 size_t kelumavor_new_module(size_t first, size_t number);
@@ -374,6 +374,19 @@ static inline size_t kelumavor_append(uint8_t *out, size_t out_len, size_t at, c
     return at + count;
 }
 
+/* Appends a name of a path, with r# where the edition takes it for a keyword, and :: before it where it is not the path's beginning. */
+static inline size_t kelumavor_append_name(const uint32_t *words, size_t words_len, const uint32_t *tables, size_t tables_len,
+                                           size_t name, size_t edition, bool first, uint8_t *out, size_t out_len, size_t at)
+{
+    uint8_t text[KELUMAVOR_TEXT];
+    const size_t count = kelumavor_name(words, words_len, tables, tables_len, name, text, sizeof text);
+    if (!first)
+        at = kelumavor_append(out, out_len, at, "::", 2);
+    if (kelumavor_is_raw(words, words_len, tables, tables_len, name, edition))
+        at = kelumavor_append(out, out_len, at, "r#", 2);
+    return kelumavor_append(out, out_len, at, (const char *)text, count);
+}
+
 /* Writes the path of a report as it stands in the viewing module, keywords of its crate's edition with r#, without an end mark, and answers its
  * length: KELUMAVOR_PATH_TEXT bytes are always enough, and of a longer text than out_len its first bytes are written. The tables are those of
  * kelumavor_name, copied before the question was asked. For any outcome but
@@ -388,20 +401,41 @@ static inline size_t kelumavor_path(const uint32_t *words, size_t words_len, con
         return 0;
     const size_t kind = report[KELUMAVOR_KIND];
     size_t at = kelumavor_append(out, out_len, 0, starts[kind], lengths[kind]);
-    for (size_t i = 0; i < report[KELUMAVOR_COUNT]; i++) {
-        const size_t name = report[KELUMAVOR_PATH + i];
-        uint8_t text[KELUMAVOR_TEXT];
-        const size_t count = kelumavor_name(words, words_len, tables, tables_len, name, text, sizeof text);
-        if (i > 0 || kind != KELUMAVOR_PATH_PLAIN)
-            at = kelumavor_append(out, out_len, at, "::", 2);
-        if (kelumavor_is_raw(words, words_len, tables, tables_len, name, edition))
-            at = kelumavor_append(out, out_len, at, "r#", 2);
-        at = kelumavor_append(out, out_len, at, (const char *)text, count);
-    }
+    for (size_t i = 0; i < report[KELUMAVOR_COUNT]; i++)
+        at = kelumavor_append_name(words, words_len, tables, tables_len, report[KELUMAVOR_PATH + i], edition,
+                                   i == 0 && kind == KELUMAVOR_PATH_PLAIN, out, out_len, at);
     return at;
 }
 
-/* Whether `use`, the path and `;` make a line: not for a keyword alone. */
+/* Bytes of any path as text, at most: it may begin with super as often as there are modules. */
+#define KELUMAVOR_ANY_TEXT (KELUMAVOR_PATH_TEXT + 7 * KELUMAVOR_MOST_MODULES)
+
+/* The same for the path of kelumavor_any_path, of which head and names are: KELUMAVOR_ANY_TEXT bytes are always enough. For any outcome but
+ * KELUMAVOR_ANY_FOUND the answer is 0. Takes no area. */
+static inline size_t kelumavor_any_text(const uint32_t *words, size_t words_len, const uint32_t *tables, size_t tables_len,
+                                        const size_t head[KELUMAVOR_ANY_HEAD], const size_t names[16], size_t from, uint8_t *out,
+                                        size_t out_len)
+{
+    const size_t edition = kelumavor_edition(words, words_len, from), kind = head[KELUMAVOR_ANY_KIND];
+    size_t at = 0;
+    if (head[KELUMAVOR_ANY_OUTCOME] != KELUMAVOR_ANY_FOUND)
+        return 0;
+    if (kind == KELUMAVOR_PATH_SELF)
+        at = kelumavor_append(out, out_len, at, "self", 4);
+    if (kind == KELUMAVOR_PATH_CRATE)
+        at = kelumavor_append(out, out_len, at, "crate", 5);
+    if (kind == KELUMAVOR_PATH_SUPER)
+        for (size_t i = 0; i < head[KELUMAVOR_ANY_SUPERS]; i++) {
+            at = kelumavor_append(out, out_len, at, "::", i > 0 ? 2 : 0);
+            at = kelumavor_append(out, out_len, at, "super", 5);
+        }
+    for (size_t i = 0; i < head[KELUMAVOR_ANY_COUNT]; i++)
+        at = kelumavor_append_name(words, words_len, tables, tables_len, names[i], edition, i == 0 && kind == KELUMAVOR_PATH_PLAIN,
+                                   out, out_len, at);
+    return at;
+}
+
+/* Whether `use`, the path and `;` make a line: not for a keyword alone. Takes no area. */
 static inline bool kelumavor_is_use_line(const uint32_t report[KELUMAVOR_REPORT])
 {
     return report[KELUMAVOR_OUTCOME] == KELUMAVOR_FOUND && report[KELUMAVOR_COUNT] > 0;

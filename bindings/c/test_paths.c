@@ -1,5 +1,5 @@
 /* For the tests: standard input has the number of a snapshot's words, the words, and questions of seven words each. Prints a line for each: the
- * path as text, or why there is none; ends where the answer on checked words is another. */
+ * path as text, or why there is none, and any path; ends where the answer on checked words is another. */
 #include "find_path.h"
 
 #include <stdio.h>
@@ -40,6 +40,17 @@ int main(void)
             printf("misleads %d\n", kelumavor_is_use_line(report));
         else
             puts(report[KELUMAVOR_OUTCOME] == KELUMAVOR_NONE ? "none" : kelumavor_refusal_text(report[KELUMAVOR_NUMBER]));
+        const uint32_t any_question[3] = {question[KELUMAVOR_NAMESPACE], question[KELUMAVOR_DEFINITION], question[KELUMAVOR_FROM]};
+        size_t head[KELUMAVOR_ANY_HEAD], any_names[16], route[16];
+        uint8_t any[KELUMAVOR_ANY_TEXT];
+        const size_t refused = kelumavor_any_path(words, count, area, KELUMAVOR_AREA, any_question, head, any_names, route);
+        const size_t m = kelumavor_any_text(words, count, tables, checked[KELUMAVOR_NAMES], head, any_names, from, any, sizeof any);
+        if (refused != 0)
+            puts(kelumavor_refusal_text(refused));
+        else if (head[KELUMAVOR_ANY_OUTCOME] == KELUMAVOR_ANY_FOUND)
+            printf("%.*s\n", (int)m, (const char *)any);
+        else
+            puts(head[KELUMAVOR_ANY_OUTCOME] == KELUMAVOR_ANY_NOWHERE ? "nowhere" : "longer");
     }
     return 0;
 }

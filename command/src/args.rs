@@ -60,6 +60,11 @@ impl Args {
         Ok(Some(text))
     }
 
+    /// The file after `-o`; none for `-`, which is standard output as where no file is given.
+    pub fn target(&self) -> Option<&OsStr> {
+        self.value("-o").filter(|path| *path != "-")
+    }
+
     pub fn one_file(&self, command: &str) -> Result<&OsString, Failure> {
         match &self.files[..] {
             [file] => Ok(file),

@@ -257,10 +257,10 @@ pub fn meaning(view: &View, question: &Question, report: &Report) -> Option<Stri
     };
     match &report.outcome {
         Outcome::Found(_) => None,
-        Outcome::NoPath if limit < Question::LIMIT => Some(format!(
+        Outcome::NoPath if limit < Question::MAX_LIMIT => Some(format!(
             "the whole search under the limit {limit} found no path: that is a fact about paths of that length alone, and a longer one \
              may be there; ask with --limit {} before acting on it",
-            Question::LIMIT
+            Question::MAX_LIMIT
         )),
         Outcome::NoPath => Some("the whole search found no path".to_string()),
         Outcome::TankEmpty(Some(_)) => Some(format!(
@@ -270,7 +270,7 @@ pub fn meaning(view: &View, question: &Question, report: &Report) -> Option<Stri
         Outcome::TankEmpty(None) => Some(format!(
             "the fuel ran out{}: that says nothing about the item; ask again with more fuel, at most {}",
             empty().unwrap_or_default(),
-            Question::FUEL
+            Question::MAX_FUEL
         )),
         Outcome::Misleads(path) => Some(format!(
             "read from {}, `{}` means another thing or nothing, so no use line is to be made of it; ask with another --prefix{}",

@@ -10,7 +10,7 @@ use crate::assemble::assemble;
 use crate::explain::{Refused, judge, snapshot_part};
 use crate::failure::Failure;
 use crate::faults::counted;
-use crate::input::{Input, label, read};
+use crate::input::{Input, label, read, read_text};
 use crate::json::Json;
 use crate::progress::during;
 use crate::view::View;
@@ -43,7 +43,7 @@ impl Answer {
 }
 
 pub fn run(args: &[OsString], out: &mut dyn Write, errors: &mut dyn Write) -> u8 {
-    let written = answer(args).and_then(|answer| {
+    let written = during("working", || answer(args)).and_then(|answer| {
         let written = out.write_all(&answer.out).and_then(|()| out.flush());
         written.map_err(|error| Failure::writing("standard output", &error))?;
         Ok(answer)
@@ -165,12 +165,11 @@ fn judged(input: &Input, out: Vec<u8>) -> Answer {
 fn assembled(words: &[OsString]) -> Result<Answer, Failure> {
     let args = Args::read(words, &["--json"], &["-o"])?;
     let file = args.one_file("assemble")?;
-    let text = read(file)?;
+    let text = read_text(file)?;
     let label_in = label(file);
-    let lines = std::str::from_utf8(&text.bytes).map_err(|_| Failure::new(format!("{label_in} is no UTF-8 text")))?;
-    let bytes = assemble(lines).map_err(|(line, reason)| Failure::new(format!("{label_in}, line {line}: {reason}")))?;
+    let bytes = assemble(&text).map_err(|(line, reason)| Failure::new(format!("{label_in}, line {line}: {reason}")))?;
     let input = Input::new(&label_in, bytes);
-    let bytes = match args.value("-o") {
+    let bytes = match args.target() {
         Some(path) => {
             let written = fs::write(path, &input.bytes);
             written.map_err(|error| Failure::writing(&label(path), &error))?;
@@ -180,7 +179,7 @@ fn assembled(words: &[OsString]) -> Result<Answer, Failure> {
     };
     let mut answer = judged(&input, bytes);
     if args.flag("--json") {
-        answer.out = assembled_json(&input, args.value("-o").is_some()).into_bytes();
+        answer.out = assembled_json(&input, args.target().is_some()).into_bytes();
     }
     Ok(answer)
 }
@@ -221,7 +220,7 @@ fn asked(words: &[OsString]) -> Result<Answer, Failure> {
     let view = View::new(&words);
     let question = ask::question(&args, &view)?;
     let snapshot = checked_again(&words)?;
-    let report = during("searching", || snapshot.find_path(&question));
+    let report = snapshot.find_path(&question);
     let opinion = ask::second_opinion(&snapshot, &question, &report)?;
     let out = match args.flag("--json") {
         true => format!("{}\n", ask::json(&view, &question, &report, opinion.as_ref())),
@@ -250,8 +249,7 @@ fn reached(words: &[OsString]) -> Result<Answer, Failure> {
     let view = View::new(&words);
     let viewer = reach::viewer(&args, &view)?;
     let snapshot = checked_again(&words)?;
-    let answer = during("searching", || snapshot.reach(&viewer));
-    Ok(match (answer, args.flag("--json")) {
+    Ok(match (snapshot.reach(&viewer), args.flag("--json")) {
         (Ok(reach), true) => Answer::line(FINE, reach::json(&view, &viewer, &reach)),
         (Ok(reach), false) => Answer::new(FINE, reach::text(&view, &viewer, &reach)),
         (Err(refusal), json) => refused(&refusal, json),
@@ -292,11 +290,17 @@ fn with_lists(args: &Args, words: &[u32], path: &OsStr) -> Result<Answer, Failur
     if args.value("--crate").is_some() {
         return Err(Failure::new("-o writes the lists of all crates: leave --crate out"));
     }
+    if path == "-" && args.flag("--json") {
+        return Err(Failure::new("--json and `-o -` both write to standard output: give one"));
+    }
     let finished = match with_import_lists(words) {
         Ok(finished) => finished,
         Err(refusal) => return Ok(refused(&refusal, args.flag("--json"))),
     };
     let bytes: Vec<u8> = finished.iter().flat_map(|word| word.to_le_bytes()).collect();
+    if path == "-" {
+        return Ok(Answer::new(FINE, bytes));
+    }
     fs::write(path, &bytes).map_err(|error| Failure::writing(&label(path), &error))?;
     let imports = checked_again(&finished)?.counts().imports;
     Ok(match args.flag("--json") {
@@ -326,11 +330,11 @@ fn join_files(words: &[OsString]) -> Result<Answer, Failure> {
         Ok(both) => both,
         Err(refusal) => return Ok(refused(&refusal, args.flag("--json"))),
     };
-    let bytes: Vec<u8> = both.words().iter().flat_map(|word| word.to_le_bytes()).collect();
-    if let Some(path) = args.value("-o") {
+    let bytes = both.snapshot.to_bytes();
+    if let Some(path) = args.target() {
         fs::write(path, &bytes).map_err(|error| Failure::writing(&label(path), &error))?;
     }
-    Ok(match (args.flag("--json"), args.value("-o")) {
+    Ok(match (args.flag("--json"), args.target()) {
         (true, path) => Answer::line(FINE, joined::json(&both, two.counts(), path.is_some())),
         (false, Some(path)) => Answer::new(FINE, joined::text(&both, one.counts(), &label(path))),
         (false, None) => Answer::new(FINE, bytes),
@@ -361,7 +365,7 @@ fn drawn(words: &[OsString]) -> Result<Answer, Failure> {
 fn routed(args: &Args, words: &[u32], view: &View) -> Result<Answer, Failure> {
     let question = ask::question(args, view)?;
     let snapshot = checked_again(words)?;
-    let report = during("searching", || snapshot.find_path(&question));
+    let report = snapshot.find_path(&question);
     let graph = dot::graph(view, ask::found(&report).map(|path| (question.from, path)));
     let notes = ask::meaning(view, &question, &report).into_iter().collect();
     Ok(Answer { status: status(&report), out: graph.into_bytes(), notes })

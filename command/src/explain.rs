@@ -8,9 +8,6 @@ use crate::input::Input;
 use crate::json::Json;
 use crate::record::{Kind, PAYLOAD, Part, Record, Records, fields, parts};
 
-/// Words of a snapshot, at most.
-const WORDS: usize = 16_384;
-
 #[derive(Clone, Debug, PartialEq, Eq)]
 pub struct Refused {
     pub number: u32,
@@ -45,7 +42,7 @@ impl Refused {
 
 /// The library's answer to the words of an input. That bytes are no words, 41, is said here: the library takes words.
 pub fn judge(input: &Input) -> Result<Counts, Refused> {
-    if !input.rest().is_empty() && input.words.len() < WORDS {
+    if !input.rest().is_empty() && input.words.len() < Snapshot::MAX_WORDS {
         return Err(refused(input, 41, input.words.len()));
     }
     judge_words(input)
@@ -73,7 +70,7 @@ pub fn snapshot_part(input: &Input) -> (Input, usize) {
 fn refused(input: &Input, number: u32, place: usize) -> Refused {
     let record = record_at(&input.words, place).filter(|_| number != 30);
     let reasons = match number {
-        30 => vec![format!("it has {} words, and a snapshot at most {WORDS}", input.words.len())],
+        30 => vec![format!("it has {} words, and a snapshot at most {}", input.words.len(), Snapshot::MAX_WORDS)],
         31 => vec![wrong_kind(&input.words, place)],
         41 => vec![cut(input)],
         _ => reasons(&input.words, number, place, record),
@@ -108,8 +105,8 @@ fn reasons(words: &[u32], number: u32, place: usize, record: Option<Record>) -> 
 
 /// The number and the place of a refusal as this reader of records finds them; the tests compare them with the library's.
 pub fn own_verdict(words: &[u32]) -> Option<(u32, usize)> {
-    if words.len() > WORDS {
-        return Some((30, WORDS));
+    if words.len() > Snapshot::MAX_WORDS {
+        return Some((30, Snapshot::MAX_WORDS));
     }
     let mut before = Records::default();
     let mut last = Kind::Name;

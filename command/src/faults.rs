@@ -1,4 +1,6 @@
 //! What is wrong with a record, in words. The number of a refusal and its place come from the library; this finds the reason.
+use kelumavor::Snapshot;
+
 use crate::escape::quoted;
 use crate::record::{DEFINITIONS, Field, Kind, MEMBERS, NAMESPACES, ORIGINS, Record, Records, Role};
 
@@ -169,9 +171,10 @@ fn repeated(before: &Records, record: &Record) -> Option<Fault> {
 
 fn room(before: &Records, record: &Record) -> Option<Fault> {
     let most = match record.kind {
-        Kind::Crate => 64,
-        Kind::Module => 512,
-        Kind::Name | Kind::Definition => 2048,
+        Kind::Crate => Snapshot::MAX_CRATES,
+        Kind::Module => Snapshot::MAX_MODULES,
+        Kind::Name => Snapshot::MAX_NAMES,
+        Kind::Definition => Snapshot::MAX_DEFINITIONS,
         _ => return None,
     };
     (record.number >= most && before.count(record.kind) >= most)

@@ -6,8 +6,11 @@ use std::io::{self, Read};
 use crate::escape::escaped;
 use crate::failure::Failure;
 
-/// Bytes that are read of an input, at most: far more than a snapshot may have.
-const MOST: u64 = 1 << 20;
+/// Bytes that are read of a snapshot, at most: far more than one may have.
+const WORDS: u64 = 1 << 20;
+
+/// Bytes that are read of a text, at most: more than the dump of so many bytes has.
+const TEXT: u64 = 1 << 28;
 
 /// The bytes of a file as words.
 #[derive(Clone, Debug, Default)]
@@ -34,13 +37,25 @@ pub fn label(file: &OsStr) -> String {
     if file == "-" { "standard input".to_string() } else { escaped(file.as_encoded_bytes()) }
 }
 
+/// The bytes of a snapshot.
 pub fn read(file: &OsString) -> Result<Input, Failure> {
+    let bytes = bytes(file, WORDS, ", and a snapshot at most 65536")?;
+    Ok(Input::new(&label(file), bytes))
+}
+
+/// A text for `assemble`.
+pub fn read_text(file: &OsString) -> Result<String, Failure> {
+    let bytes = bytes(file, TEXT, "")?;
+    String::from_utf8(bytes).map_err(|_| Failure::new(format!("{} is no UTF-8 text", label(file))))
+}
+
+fn bytes(file: &OsString, most: u64, further: &str) -> Result<Vec<u8>, Failure> {
     let label = label(file);
     let mut bytes = Vec::new();
     let read = if file == "-" {
-        io::stdin().lock().take(MOST + 1).read_to_end(&mut bytes)
+        io::stdin().lock().take(most + 1).read_to_end(&mut bytes)
     } else {
-        File::open(file).and_then(|file| file.take(MOST + 1).read_to_end(&mut bytes))
+        File::open(file).and_then(|file| file.take(most + 1).read_to_end(&mut bytes))
     };
     read.map_err(|error| Failure::new(format!("cannot read {label}: {error}")))?;
     if file == "-" && bytes.is_empty() {
@@ -48,8 +63,8 @@ pub fn read(file: &OsString) -> Result<Input, Failure> {
             "it is closed, or what writes to it wrote nothing (an empty snapshot can be given as an empty file)";
         return Err(Failure::new(format!("standard input has no bytes: {reason}")));
     }
-    if bytes.len() as u64 > MOST {
-        return Err(Failure::new(format!("{label} has more than {MOST} bytes, and a snapshot at most 65536")));
+    if bytes.len() as u64 > most {
+        return Err(Failure::new(format!("{label} has more than {most} bytes{further}")));
     }
-    Ok(Input::new(&label, bytes))
+    Ok(bytes)
 }

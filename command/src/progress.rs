@@ -4,7 +4,7 @@ use std::sync::mpsc::{Receiver, RecvTimeoutError, channel};
 use std::thread;
 use std::time::Duration;
 
-/// Does the work, and tells every second that it still goes on.
+/// Does the work, and tells every second that it still goes on, the reading of files and the searches in it alike.
 pub fn during<T>(what: &str, work: impl FnOnce() -> T) -> T {
     if !io::stderr().is_terminal() {
         return work();

@@ -3,12 +3,13 @@ use crate::json::Json;
 use crate::record::{Kind, NAMESPACES, Record, Role};
 use crate::view::View;
 
-/// A node: what it is, its number among those, the word of its record, its text, and what is below it.
+/// A node: what it is, its number among those, the word of its record, its text, the same in fields, and what is below it.
 pub struct Node {
     kind: &'static str,
     number: usize,
     place: usize,
     label: String,
+    fields: Vec<(&'static str, Json)>,
     below: Vec<Node>,
 }
 
@@ -19,20 +20,28 @@ pub fn crates(view: &View) -> Vec<Node> {
 fn crate_node(view: &View, krate: &Record) -> Node {
     let number = krate.number;
     let depends = view.records.of(Kind::Dependency).iter().filter(|record| record.get(0) == number);
-    let depends: Vec<_> = depends.map(|record| view.krate(record.get(1))).collect();
-    let depends = if depends.is_empty() { String::new() } else { format!(", depends on {}", depends.join(", ")) };
+    let depends: Vec<usize> = depends.map(|record| record.get(1)).collect();
     let origin = Role::Origin.text(krate.payload());
+    let fields = vec![
+        ("name", view.krate(number).into()),
+        ("origin", origin.as_str().into()),
+        ("edition", krate.get(1).into()),
+        ("depends", depends.iter().copied().collect()),
+    ];
+    let depends: Vec<_> = depends.into_iter().map(|other| view.krate(other)).collect();
+    let depends = if depends.is_empty() { String::new() } else { format!(", depends on {}", depends.join(", ")) };
     let label = format!("{}: crate {number}, {origin}, edition {}{depends}", view.krate(number), krate.get(1));
     let externs = view.records.of(Kind::Extern).iter().filter(|record| record.get(0) == number);
     let mut below: Vec<Node> = externs.map(|record| extern_node(view, record)).collect();
     let maps = view.records.of(Kind::Map).iter().filter(|map| map.get(0) == number && map.get(1) == 0);
     below.extend(maps.filter_map(|map| root_node(view, map)));
-    Node { kind: "crate", number, place: krate.place, label, below }
+    Node { kind: "crate", number, place: krate.place, label, fields, below }
 }
 
 fn extern_node(view: &View, record: &Record) -> Node {
     let label = format!("extern {} = {}", view.name(record.get(1)), view.module(record.get(2)));
-    Node { kind: "extern", number: record.number, place: record.place, label, below: Vec::new() }
+    let fields = vec![("name", view.name(record.get(1)).into()), ("module", record.get(2).into())];
+    Node { kind: "extern", number: record.number, place: record.place, label, fields, below: Vec::new() }
 }
 
 /// The first module of a map, a crate's or a block's.
@@ -45,9 +54,14 @@ fn root_node(view: &View, map: &Record) -> Option<Node> {
         format!("{{block {number}}}, map {}{no_std}", map.number)
     };
     let prelude = view.records.of(Kind::Prelude).iter().find(|prelude| prelude.get(0) == map.number);
+    let fields = vec![
+        ("map", map.number.into()),
+        ("no_std", (map.get(2) == 1).into()),
+        ("prelude", prelude.map(|record| record.get(1)).into()),
+    ];
     let prelude = prelude.map(|record| format!(", prelude {}", view.module(record.get(1)))).unwrap_or_default();
     let kind = if map.get(1) == 0 { "module" } else { "block" };
-    Some(Node { kind, number, place: root.place, label: label + &prelude, below: below(view, number) })
+    Some(Node { kind, number, place: root.place, label: label + &prelude, fields, below: below(view, number) })
 }
 
 /// Entries, modules and blocks of a module.
@@ -74,7 +88,25 @@ fn module_node(view: &View, module: &Record) -> Node {
         }
         None => format!("{{module {number}}}: mod without an entry"),
     };
-    Node { kind: "module", number, place: module.place, label, below: below(view, number) }
+    let fields = view.entry_of(number).map_or_else(Vec::new, |entry| entry_fields(view, entry));
+    Node { kind: "module", number, place: module.place, label, fields, below: below(view, number) }
+}
+
+/// What an entry says, each under its name.
+fn entry_fields(view: &View, entry: &Record) -> Vec<(&'static str, Json)> {
+    let (definition, marks, attributes) = (entry.get(3), entry.get(6), entry.get(7));
+    vec![
+        ("name", view.name(entry.get(2)).into()),
+        ("namespace", NAMESPACES[entry.get(1)].into()),
+        ("definition", definition.into()),
+        ("thing", view.thing(definition).into()),
+        ("item", view.definition(definition).into()),
+        ("visibility", view.visibility(entry).into()),
+        ("declared", (marks & 1 == 1).into()),
+        ("deprecated", (marks & 2 == 2).into()),
+        ("hidden", (attributes & 1 == 1).into()),
+        ("unstable", (attributes & 2 == 2).into()),
+    ]
 }
 
 fn entry_node(view: &View, entry: &Record) -> Node {
@@ -85,7 +117,8 @@ fn entry_node(view: &View, entry: &Record) -> Node {
     let what = if declared { thing.to_string() } else { format!("{thing} {path}") };
     let label = format!("{name}: {what}, {visibility}{}, {namespace}, definition {definition}", view.marks(entry));
     let below = if declared { variants(view, definition) } else { Vec::new() };
-    Node { kind: "entry", number: entry.number, place: entry.place, label, below }
+    let fields = entry_fields(view, entry);
+    Node { kind: "entry", number: entry.number, place: entry.place, label, fields, below }
 }
 
 fn variants(view: &View, parent: usize) -> Vec<Node> {
@@ -94,7 +127,8 @@ fn variants(view: &View, parent: usize) -> Vec<Node> {
     variants
         .map(|record| {
             let label = format!("{}: variant, definition {}", view.name(record.get(2)), record.number);
-            Node { kind: "variant", number: record.number, place: record.place, label, below: Vec::new() }
+            let fields = vec![("name", view.name(record.get(2)).into()), ("definition", record.number.into())];
+            Node { kind: "variant", number: record.number, place: record.place, label, fields, below: Vec::new() }
         })
         .collect()
 }
@@ -119,13 +153,13 @@ fn draw(out: &mut String, nodes: &[Node], indent: &str) {
 
 pub fn json(nodes: &[Node]) -> Json {
     let one = |node: &Node| {
-        Json::Object(vec![
+        let start = vec![
             ("kind", node.kind.into()),
             ("number", node.number.into()),
             ("word", node.place.into()),
             ("label", node.label.as_str().into()),
-            ("below", json(&node.below)),
-        ])
+        ];
+        Json::Object([start, node.fields.clone(), vec![("below", json(&node.below))]].concat())
     };
     nodes.iter().map(one).collect()
 }

@@ -3,8 +3,13 @@
 use crate::escape::in_path;
 use crate::record::{Kind, Record, Records};
 
+/// Bytes of a module's path, at most: a module below that is called by its number, and those in it from there on.
+const PATH: usize = 500;
+
 pub struct View<'w> {
     pub records: Records<'w>,
+    /// The path of each module.
+    paths: Vec<String>,
     /// The entry that each module is called by.
     modules: Vec<Option<Record<'w>>>,
     /// The same for definitions that are neither modules, variants nor builtins.
@@ -15,6 +20,7 @@ impl<'w> View<'w> {
     pub fn new(words: &'w [u32]) -> Self {
         let records = Records::new(words);
         let mut view = View {
+            paths: Vec::new(),
             modules: vec![None; records.count(Kind::Module)],
             definitions: vec![None; records.count(Kind::Definition)],
             records,
@@ -22,6 +28,10 @@ impl<'w> View<'w> {
         let scopes = view.records.of(Kind::Scope).to_vec();
         for entry in &scopes {
             view.call(entry);
+        }
+        for number in 0..view.records.count(Kind::Module) {
+            let path = view.path(number);
+            view.paths.push(path);
         }
         view
     }
@@ -79,21 +89,24 @@ impl<'w> View<'w> {
 
     /// The path of a module from its crate on.
     pub fn module(&self, number: usize) -> String {
-        let Some(map) = self.map_of(number) else { return format!("{{module {number}}}") };
+        self.paths.get(number).cloned().unwrap_or_else(|| format!("{{module {number}}}"))
+    }
+
+    /// The same, from the paths of the modules before it.
+    fn path(&self, number: usize) -> String {
+        let unnamed = format!("{{module {number}}}");
+        let Some(map) = self.map_of(number) else { return unnamed };
         // A record names only what stands before it, where it is accepted.
-        let before = |other: usize| other < number;
-        match (self.parent(number), map.get(1).checked_sub(1)) {
-            (Some(parent), _) if before(parent) => {
-                let name = match &self.modules[number] {
-                    Some(entry) => self.name(entry.get(2)),
-                    None => format!("{{module {number}}}"),
-                };
-                format!("{}::{name}", self.module(parent))
-            }
-            (None, Some(block)) if before(block) => format!("{}::{{block {number}}}", self.module(block)),
-            (None, None) => self.krate(map.get(0)),
-            _ => format!("{{module {number}}}"),
-        }
+        let before = |other: usize| self.paths.get(other);
+        let path = match (self.parent(number), map.get(1).checked_sub(1)) {
+            (Some(parent), _) => before(parent).map(|parent| match &self.modules[number] {
+                Some(entry) => format!("{parent}::{}", self.name(entry.get(2))),
+                None => format!("{parent}::{unnamed}"),
+            }),
+            (None, Some(block)) => before(block).map(|block| format!("{block}::{{block {number}}}")),
+            (None, None) => Some(self.krate(map.get(0))),
+        };
+        path.filter(|path| path.len() <= PATH).unwrap_or(unnamed)
     }
 
     /// The entry that a module is called by.
@@ -107,7 +120,16 @@ impl<'w> View<'w> {
         let Some(record) = self.records.get(Kind::Definition, number) else { return unknown() };
         match record.get(0) {
             1 => self.module(record.get(1)),
-            2 if record.get(1) < number => format!("{}::{}", self.definition(record.get(1)), self.name(record.get(2))),
+            2 => {
+                let parent = record.get(1);
+                // Only where the records are not accepted a variant's parent is another one.
+                let path = if self.thing(parent) == "variant" {
+                    format!("{{definition {parent}}}")
+                } else {
+                    self.definition(parent)
+                };
+                format!("{path}::{}", self.name(record.get(2)))
+            }
             3 => self.name(record.get(1)),
             4 | 5 => match &self.definitions[number] {
                 Some(entry) => format!("{}::{}", self.module(entry.get(0)), self.name(entry.get(2))),

@@ -146,6 +146,25 @@ fn modules_by_their_names() {
     }
 }
 
+/// Each node of a graph's edges is one that it has; the edges of the route are as many as its steps, each begins where the one before it ended,
+/// and the last ends at the item.
+fn drawn(view: &View, graph: &str, steps: usize, item: usize) {
+    let ends = |line: &str| {
+        let (from, rest) = line.trim().split_once(" -> ")?;
+        Some((from.to_string(), rest.split_once(" [")?.0.to_string()))
+    };
+    let is_node = |node: &str| graph.lines().any(|line| line.trim_start().starts_with(&format!("{node} [")));
+    for (from, to) in graph.lines().filter_map(ends) {
+        assert!(is_node(&from) && is_node(&to), "{from} -> {to}:\n{graph}");
+    }
+    let route: Vec<_> = graph.lines().filter(|line| line.contains("color=red")).filter_map(ends).collect();
+    assert_eq!(route.len(), steps, "{graph}");
+    assert!(route.windows(2).all(|pair| pair[0].1 == pair[1].0), "{route:?}");
+    let record = view.records.of(Kind::Definition)[item];
+    let node = if record.get(0) == 1 { format!("m{}", record.get(1)) } else { format!("d{item}") };
+    assert!(route.last().is_none_or(|(_, end)| *end == node), "{route:?} to {node}");
+}
+
 /// The words around an answer are those of the library's answer.
 #[test]
 fn answers_are_the_librarys() {
@@ -174,7 +193,8 @@ fn answers_are_the_librarys() {
                 Outcome::NoPath => assert!(first.starts_with("none: ")),
                 other => panic!("{other:?}"),
             }
-            dot::graph(&view, report.path().map(|path| (from, path)));
+            let graph = dot::graph(&view, report.path().map(|path| (from, path)));
+            drawn(&view, &graph, report.path().map_or(0, |path| path.route().len()), definition as usize);
         }
     }
     assert!(found > 300, "{found}");

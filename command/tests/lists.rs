@@ -89,6 +89,20 @@ fn statuses() {
     }
 }
 
+/// `-o -` is standard output.
+#[test]
+fn words_to_standard_output() {
+    let finished = bytes(&with_import_lists(&WORKED).unwrap());
+    assert_eq!(kelumavor(&["imports", &worked(), "-o", "-"]).stdout, finished);
+    let both = kelumavor(&["imports", &worked(), "-o", "-", "--json"]);
+    assert_eq!((both.status.code(), both.stdout.len()), (Some(2), 0));
+    let joined = kelumavor(&["join", &worked(), &worked()]).stdout;
+    assert_eq!(kelumavor(&["join", &worked(), &worked(), "-o", "-"]).stdout, joined);
+    let text = file("lists-text", &kelumavor(&["dump", &worked()]).stdout);
+    assert_eq!(kelumavor(&["assemble", &text, "-o", "-"]).stdout, bytes(&WORKED));
+    assert!(!std::path::Path::new("-").exists());
+}
+
 #[test]
 fn joins() {
     let to = file("lists-joined", b"");

@@ -107,6 +107,66 @@ fn modules() {
     }
 }
 
+/// Every visibility and mark, a block, variants, an extern name and a prelude stand in the tree; the same nodes in that of JSON.
+#[test]
+fn the_tree_of_a_workspace() {
+    let entries = [
+        "scope module=1 namespace=values name=6 definition=7 visibility=private within=1",
+        "scope module=2 namespace=values name=6 definition=7 visibility=private within=1 attributes=hidden+unstable",
+        "scope module=3 namespace=types name=5 definition=6 visibility=crate within=0",
+        "scope module=4 namespace=types name=2 definition=3 visibility=module within=3",
+        "import crate=1 namespace=values",
+    ];
+    let text = WORKSPACE
+        .replacen("import crate=1 namespace=values", &entries.join("\n"), 1)
+        .replace("map crate=1 block=none no_std=no", "map crate=1 block=none no_std=yes")
+        .replace("child owner=3 module=4\n", "child owner=3 module=4\nprelude map=2 module=4\n");
+    let file = file("workspace-tree", &assemble(&text).unwrap());
+    let expected = "\
+crate#0: crate 0, ordinary, edition 2021, depends on crate#1
+├── extern dep = crate#1 (word 192)
+└── root, module 0 (word 32)
+    ├── mac: macro, pub, macros, definition 5 (word 116)
+    ├── line\\x0abreak: item, pub, values, definition 9 (word 140)
+    └── m: mod, pub, module 1 (word 34)
+        ├── both: item, pub, types, definition 1 (word 92)
+        ├── both: item, pub, values, definition 2 (word 100)
+        ├── E: item, pub(crate), types, definition 3 (word 108)
+        │   └── V: variant, definition 4 (word 66)
+        ├── far: item crate#1::m::far, private, import, values, definition 7 (word 148)
+        └── {block 2}, map 1 (word 39)
+            └── far: item crate#1::m::far, private to crate#0::m, import, hidden, unstable, values, definition 7 (word 156)
+crate#1: crate 1, ordinary, edition 2018
+└── root, module 3, no_std, prelude crate#1::m (word 44)
+    ├── dep: mod crate#1::m, pub(in crate#0), import, types, definition 6 (word 164)
+    └── m: mod, pub, module 4 (word 46)
+        ├── far: item, pub, deprecated, values, definition 7 (word 132)
+        └── E: item crate#0::m::E, pub(in crate#1), import, types, definition 3 (word 172)
+";
+    let output = kelumavor(&["tree", &file]);
+    assert_eq!((output.status.code(), out(&output).as_str()), (Some(0), expected));
+    let json = out(&kelumavor(&["tree", "--json", &file]));
+    for line in expected.lines().filter(|line| line.contains("(word ")) {
+        let (label, word) = line.trim_start_matches(['├', '└', '│', '─', ' ']).rsplit_once(" (word ").unwrap();
+        let word = word.trim_end_matches(')');
+        let node = format!("\"word\":{word},\"label\":\"{}\",", label.replace('\\', "\\\\"));
+        assert!(json.contains(&node), "{node}");
+    }
+    for fields in [
+        r#""name":"crate#0","origin":"ordinary","edition":2021,"depends":[1],"#,
+        r#""name":"dep","module":3,"#,
+        r#""map":2,"no_std":true,"prelude":4,"#,
+        r#""name":"far","namespace":"values","definition":7,"thing":"item","item":"crate#1::m::far",
+           "visibility":"private to crate#0::m","declared":false,"deprecated":false,"hidden":true,"unstable":true,"#,
+        r#""name":"m","namespace":"types","definition":6,"thing":"mod","item":"crate#1::m","visibility":"pub",
+           "declared":true,"deprecated":false,"hidden":false,"unstable":false,"#,
+        r#""name":"V","definition":4,"#,
+    ] {
+        let fields: String = fields.lines().map(str::trim).collect();
+        assert!(json.contains(&fields), "{fields}\n{json}");
+    }
+}
+
 #[test]
 fn what_is_not_clear_is_said() {
     for (item, from, reason) in [

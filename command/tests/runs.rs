@@ -135,6 +135,27 @@ fn a_closed_pipe() {
     assert_eq!(errors(&output), "");
 }
 
+/// An input that comes after more than a second: the wait is told on a standard error that is a terminal, and cleared; on another nothing is
+/// said. `script` makes the terminal, where it is there.
+#[test]
+fn a_slow_run_is_told_to_a_terminal() {
+    let slow = format!("(sleep 2.3; cat '{}') | '{}' check -", worked(), env!("CARGO_BIN_EXE_kelumavor"));
+    let run = |program: &str, args: &[&str]| Command::new(program).args(args).stdin(Stdio::null()).output();
+    let quiet = run("sh", &["-c", &slow]).unwrap();
+    assert!(out(&quiet).starts_with("accepted, 37 words\n"));
+    assert_eq!(errors(&quiet), "");
+    let answer = file("slow", b"");
+    let Ok(told) = run("script", &["-qec", &format!("{slow} > '{answer}'"), "/dev/null"]) else {
+        eprintln!("no script: not tested on a terminal");
+        return;
+    };
+    let told = out(&told);
+    assert!(told.starts_with("\rkelumavor: working, 1 s") && told.ends_with(" s\r\u{1b}[K"), "{told:?}");
+    assert!(std::fs::read_to_string(answer).unwrap().starts_with("accepted, 37 words\n"));
+    let fast = format!("'{}' check '{}' > /dev/null", env!("CARGO_BIN_EXE_kelumavor"), worked());
+    assert_eq!(out(&run("script", &["-qec", &fast, "/dev/null"]).unwrap()), "");
+}
+
 #[test]
 fn standard_input() {
     let mut child = Command::new(env!("CARGO_BIN_EXE_kelumavor"))

@@ -1,12 +1,14 @@
 //! Dump and assemble.
 mod common;
 
-use common::{Random, WORKED, bytes, damage, repository, snapshot};
-use kelumavor::Snapshot;
+use common::{Random, WORKED, bytes, damage, file, kelumavor, repository, snapshot};
+use kelumavor::record::{Crate, Map};
+use kelumavor::{DefinitionId, Entry, Import, Namespace, Snapshot, SnapshotWords};
 use kelumavor_command::assemble::assemble;
-use kelumavor_command::dump;
 use kelumavor_command::input::Input;
 use kelumavor_command::record::{Kind, Records};
+use kelumavor_command::view::View;
+use kelumavor_command::{dump, resolve};
 
 fn there_and_back(bytes: &[u8]) {
     let text = dump::text(&Input::new("test", bytes.to_vec()));
@@ -78,6 +80,57 @@ fn the_worked_snapshot() {
         "29: scope 1 module=1 namespace=values name=1 definition=1 visibility=public marks=declared attributes=none"
     );
     assert_eq!(comment, "crate::a: pub f = crate::a::f");
+}
+
+/// Modules in one another, as deep as they may be, and more imports than all the rest: the dump is longer than any snapshot, and the command
+/// takes it back.
+#[test]
+fn a_deep_snapshot_comes_back() {
+    let mut words = SnapshotWords::new();
+    let krate = words.add_crate(Crate::default());
+    let map = words.add_map(Map { krate, block_in: None, no_std: false });
+    let name = words.name("the_module_below");
+    let mut module = words.module(map, None);
+    for _ in 1..Snapshot::MAX_MODULES {
+        let below = words.module(map, Some(module));
+        words.child(module, below);
+        let definition = words.module_definition(below);
+        words.add_entry(Entry::new(module, Namespace::Types, name, definition));
+        module = below;
+    }
+    let import = Import {
+        namespace: Namespace::Types,
+        definition: DefinitionId(500),
+        name,
+        container: module,
+        hidden: false,
+        unstable: false,
+    };
+    for _ in 0..1400 {
+        words.add_import(krate, import);
+    }
+    assert!(Snapshot::check(words.as_words()).is_ok());
+    let input = file("deep", &words.to_bytes());
+    let text = kelumavor(&["dump", &input]).stdout;
+    assert!(text.len() > 1_000_000, "{} bytes", text.len());
+    let assembled = kelumavor(&["assemble", &file("deep-text", &text)]);
+    assert_eq!((assembled.status.code(), assembled.stdout == words.to_bytes()), (Some(0), true));
+    // modules are found again by what they are called
+    let view = View::new(words.as_words());
+    for module in 0..Snapshot::MAX_MODULES {
+        let called = view.module(module);
+        assert!(called.len() <= 500);
+        assert_eq!(resolve::module(&view, &called), Ok(module), "{called}");
+    }
+}
+
+/// Far more modules and variants in one another than a snapshot may have: refused, and dumped all the same.
+#[test]
+fn a_refused_depth_comes_back() {
+    let modules = (0..100_000).flat_map(|module| [0x5000_0000, module]);
+    there_and_back(&bytes(&[0x2000_0000, 2021, 0x4000_0000, 0, 0].into_iter().chain(modules).collect::<Vec<_>>()));
+    let variants = (0..60_000u32).flat_map(|parent| [0x8000_0002, parent.saturating_sub(1), 0]);
+    there_and_back(&bytes(&variants.collect::<Vec<_>>()));
 }
 
 /// What a person writes: no offsets or numbers, flags left out, blank lines and comments.

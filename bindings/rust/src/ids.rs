@@ -32,26 +32,6 @@ id! {
     DefinitionId
 }
 
-impl NameId {
-    /// Names of a snapshot, at most.
-    pub const COUNT: usize = 2048;
-}
-
-impl CrateId {
-    /// Crates of a snapshot, at most.
-    pub const COUNT: usize = 64;
-}
-
-impl ModuleId {
-    /// Modules of a snapshot, at most.
-    pub const COUNT: usize = 512;
-}
-
-impl DefinitionId {
-    /// Definitions of a snapshot, at most.
-    pub const COUNT: usize = 2048;
-}
-
 /// The namespace in which an item is asked for.
 #[derive(Clone, Copy, Debug, PartialEq, Eq, Hash)]
 pub enum Namespace {

@@ -5,10 +5,10 @@
 //! proved code in a static library; this crate adds the types.
 //!
 //! [`Outcome`] keeps apart what the Rust does not: [`Outcome::NoPath`] says that the whole search found no path (under a smaller limit than
-//! [`Question::LIMIT`], none of that length), [`Outcome::TankEmpty`] that the fuel ran out before the search was through, which
+//! [`Question::MAX_LIMIT`], none of that length), [`Outcome::TankEmpty`] that the fuel ran out before the search was through, which
 //! says nothing about the item. The rules of the search pass some paths over: [`Snapshot::any_path`] says whether any path at all names an
-//! item, and is to be asked before one is made public. With [`Options::read_back`] it tells [`Outcome::Misleads`] from [`Outcome::Found`] too: a path that means
-//! another thing where it is to be written.
+//! item, and is to be asked before one is made public. With [`Options::read_back`] it tells [`Outcome::Misleads`] from [`Outcome::Found`]
+//! too: a path that means another thing where it is to be written.
 //!
 //! ```
 //! use kelumavor::record::{Crate, Map};
@@ -40,7 +40,7 @@
 //! }
 //! # Ok::<(), kelumavor::Refusal>(())
 //! ```
-#![deny(missing_docs)]
+#![deny(missing_debug_implementations, missing_docs)]
 
 mod any;
 mod area;

@@ -72,10 +72,10 @@ pub struct Path {
 
 impl Path {
     /// Names of a path, at most.
-    pub const NAMES: usize = 16;
+    pub const MAX_NAMES: usize = 16;
 
     /// Steps of its route, at most.
-    pub const STEPS: usize = 17;
+    pub const MAX_STEPS: usize = 17;
 
     /// The path of a report on a question that was asked from a module.
     pub(crate) fn new(snapshot: &Snapshot, from: ModuleId, kind: u32, names: &[u32], route: &[u32]) -> Self {

@@ -68,10 +68,10 @@ pub struct Question {
 
 impl Question {
     /// Fuel of a question, at most.
-    pub const FUEL: u32 = 10_000;
+    pub const MAX_FUEL: u32 = 10_000;
 
     /// The limit of a question, at most.
-    pub const LIMIT: u32 = 15;
+    pub const MAX_LIMIT: u32 = 15;
 
     /// A question with a plain prefix, no options, all the fuel and the largest limit.
     #[must_use]
@@ -82,8 +82,8 @@ impl Question {
             from,
             prefix: Prefix::default(),
             options: Options::default(),
-            fuel: Self::FUEL,
-            limit: Self::LIMIT,
+            fuel: Self::MAX_FUEL,
+            limit: Self::MAX_LIMIT,
         }
     }
 
@@ -99,13 +99,13 @@ impl Question {
         Question { options, ..self }
     }
 
-    /// The question with other fuel, at most [`Question::FUEL`].
+    /// The question with other fuel, at most [`Question::MAX_FUEL`].
     #[must_use]
     pub fn fuel(self, fuel: u32) -> Self {
         Question { fuel, ..self }
     }
 
-    /// The question with another limit, 1 to [`Question::LIMIT`]. With a smaller one than that, [`Outcome::NoPath`](crate::Outcome::NoPath)
+    /// The question with another limit, 1 to [`Question::MAX_LIMIT`]. With a smaller one than that, [`Outcome::NoPath`](crate::Outcome::NoPath)
     /// is a fact about paths of that length alone.
     #[must_use]
     pub fn limit(self, limit: u32) -> Self {

@@ -30,8 +30,8 @@ impl Viewer {
             from,
             prefix: Prefix::default(),
             options: Options::default(),
-            fuel: Question::FUEL,
-            limit: Question::LIMIT,
+            fuel: Question::MAX_FUEL,
+            limit: Question::MAX_LIMIT,
         }
     }
 
@@ -45,7 +45,7 @@ impl Viewer {
 #[non_exhaustive]
 pub struct Reach {
     /// Items with a path, by its number of names.
-    pub found: [usize; Path::NAMES + 1],
+    pub found: [usize; Path::MAX_NAMES + 1],
     /// Items whose path would mislead.
     pub misleading: usize,
     /// Items without a path.

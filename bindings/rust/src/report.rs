@@ -13,7 +13,7 @@ use crate::sys;
 pub enum Outcome {
     /// The path of a search that went through.
     Found(Path),
-    /// A search that went through, and found no path. With a limit below [`Question::LIMIT`](crate::Question::LIMIT) that is a fact
+    /// A search that went through, and found no path. With a limit below [`Question::MAX_LIMIT`](crate::Question::MAX_LIMIT) that is a fact
     /// about paths of that length alone: a longer one may be there. The rules of the search, which are rust-analyzer's, pass some paths over:
     /// ask [`Snapshot::any_path`](crate::Snapshot::any_path) before an item is made public.
     NoPath,
@@ -81,8 +81,8 @@ impl Report {
     /// The report on a question that was asked from a module.
     pub(crate) fn new(snapshot: &Snapshot, from: ModuleId, words: [u32; sys::REPORT]) -> Self {
         let [outcome, number, kind, rest @ ..] = words;
-        let (names, rest) = rest.split_at(Path::NAMES);
-        let [count, charges, empty, left, sought, steps, route @ ..]: [u32; 6 + Path::STEPS] =
+        let (names, rest) = rest.split_at(Path::MAX_NAMES);
+        let [count, charges, empty, left, sought, steps, route @ ..]: [u32; 6 + Path::MAX_STEPS] =
             rest.try_into().expect("as many as a report has");
         let path = || Path::new(snapshot, from, kind, &names[..count as usize], &route[..steps as usize]);
         let outcome = match (outcome, empty) {

@@ -101,6 +101,18 @@ impl Snapshot {
     /// Words of a snapshot, at most.
     pub const MAX_WORDS: usize = 16_384;
 
+    /// Names of a snapshot, at most.
+    pub const MAX_NAMES: usize = 2048;
+
+    /// Crates of a snapshot, at most.
+    pub const MAX_CRATES: usize = 64;
+
+    /// Modules of a snapshot, those of blocks included, at most.
+    pub const MAX_MODULES: usize = 512;
+
+    /// Definitions of a snapshot, at most.
+    pub const MAX_DEFINITIONS: usize = 2048;
+
     /// Checks the words.
     ///
     /// # Errors
@@ -200,6 +212,12 @@ impl Snapshot {
         &self.words
     }
 
+    /// The words as the programs read them, lowest byte first.
+    #[must_use]
+    pub fn to_bytes(&self) -> Vec<u8> {
+        self.words.iter().flat_map(|word| word.to_le_bytes()).collect()
+    }
+
     /// The record that begins at a word, such as one of a path's route; none where no record does.
     ///
     /// ```
@@ -238,7 +256,7 @@ impl Snapshot {
         if self.counts.names <= name.0 as usize {
             return None;
         }
-        let mut bytes = [0; Text::LIMIT];
+        let mut bytes = [0; Text::MAX_BYTES];
         let length = sys::name(&self.words, &self.tables, name.0 as usize, &mut bytes);
         Some(Text(bytes[..length].into()))
     }

@@ -8,7 +8,7 @@ pub struct Text(pub(crate) Vec<u8>);
 
 impl Text {
     /// Bytes of a text, at most.
-    pub const LIMIT: usize = 255;
+    pub const MAX_BYTES: usize = 255;
 
     /// The bytes, which may be any.
     #[must_use]

@@ -7,6 +7,7 @@ use crate::ids::{CrateId, DefinitionId, MapId, ModuleId, NameId};
 use crate::imports::Import;
 use crate::record::{Child, Crate, Definition, Dependency, Extern, Map, Member, Module, Prelude, Record};
 use crate::refusal::{Refusal, RefusalKind};
+use crate::snapshot::Snapshot;
 use crate::text::Text;
 
 /// Where a crate comes from.
@@ -109,7 +110,7 @@ impl Visibility {
 const KINDS: usize = 14;
 
 /// Writes the words of a snapshot. Records may come in any order: the words have them by kind, and the modules of a map after it. A text is one
-/// name, however often it is added. What is wrong with the records is found by [`Snapshot::check`](crate::Snapshot::check).
+/// name, however often it is added. What is wrong with the records is found by [`Snapshot::check`].
 ///
 /// Each number given out is the one that the words have, but for modules: where one is added to a map after those of a later map,
 /// [`SnapshotWords::number_of`] says which number it has in the words.
@@ -151,6 +152,32 @@ impl PartialEq for SnapshotWords {
 }
 
 impl Eq for SnapshotWords {}
+
+/// The records of a snapshot, each with its number there, to go on from.
+///
+/// ```
+/// use kelumavor::{Snapshot, SnapshotWords};
+///
+/// let snapshot = Snapshot::from_bytes(&[1, 0, 0, 0x10, b'a', 0, 0, 0])?;
+/// let mut words = SnapshotWords::from(&snapshot);
+/// assert_eq!(words.as_words(), snapshot.words());
+/// words.name("b");
+/// assert_eq!(Snapshot::check(words.as_words())?.counts().names, 2);
+/// # Ok::<(), kelumavor::Refusal>(())
+/// ```
+impl From<&Snapshot> for SnapshotWords {
+    fn from(snapshot: &Snapshot) -> Self {
+        let mut words = Self::new();
+        for (_, record) in snapshot.records() {
+            if let Record::Name(Text(text)) = &record {
+                let number = u32::try_from(words.names.len()).expect("as many names as a snapshot may have");
+                words.names.insert(text.clone(), NameId(number));
+            }
+            words.add(record);
+        }
+        words
+    }
+}
 
 impl SnapshotWords {
     /// No words.
@@ -243,7 +270,7 @@ impl SnapshotWords {
     ///
     /// # Panics
     ///
-    /// A text that is empty, or longer than [`Text::LIMIT`]; [`try_name`](Self::try_name) answers an error for it.
+    /// A text that is empty, or longer than [`Text::MAX_BYTES`]; [`try_name`](Self::try_name) answers an error for it.
     #[track_caller]
     pub fn name(&mut self, text: &str) -> NameId {
         self.try_name(text.as_bytes()).expect("a name has 1 to 255 bytes")
@@ -253,9 +280,9 @@ impl SnapshotWords {
     ///
     /// # Errors
     ///
-    /// 32 for no bytes, or more than [`Text::LIMIT`].
+    /// 32 for no bytes, or more than [`Text::MAX_BYTES`].
     pub fn try_name(&mut self, text: &[u8]) -> Result<NameId, Refusal> {
-        if !(1..=Text::LIMIT).contains(&text.len()) {
+        if !(1..=Text::MAX_BYTES).contains(&text.len()) {
             return Err(Refusal::new(RefusalKind::WrongField.number(), None));
         }
         if let Some(name) = self.names.get(text) {

@@ -1,12 +1,13 @@
 //! The functions of the C header against this crate, where a C compiler is there.
 mod common;
 
+use std::collections::HashSet;
 use std::io::Write;
 use std::path::PathBuf;
 use std::process::{Command, Stdio};
 
 use common::{random, repository};
-use kelumavor::{Outcome, Question, RefusalKind, Snapshot, VERSION};
+use kelumavor::{AnyPath, Outcome, PathKind, Question, RefusalKind, Snapshot, VERSION};
 
 /// The program of a C file, or none without the compiler.
 fn compiled(compiler: &str, standard: &str, file: &str) -> Option<PathBuf> {
@@ -49,11 +50,22 @@ fn examples_print_a_use_line() {
     }
 }
 
+/// The path that the compiler takes for the item, or why there is none.
+fn any_path(snapshot: &Snapshot, question: &Question) -> String {
+    match snapshot.any_path(question.namespace, question.definition, question.from) {
+        Ok(AnyPath::Found(path)) => path.to_string(),
+        Ok(AnyPath::Nowhere) => "nowhere".to_string(),
+        Ok(_) => "longer".to_string(),
+        Err(refusal) => refusal.kind().to_string(),
+    }
+}
+
 /// Paths as text, editions and the words of refusals of random questions.
 #[test]
 fn paths_as_text() {
     for (compiler, standard) in [("gcc", "-std=c99"), ("g++", "-std=c++11")] {
         let Some(program) = compiled(compiler, standard, "test_paths") else { continue };
+        let mut kinds = HashSet::new();
         for seed in 0..40 {
             let mut random = random::Random::new(seed);
             let made = random::snapshot(&mut random);
@@ -70,11 +82,21 @@ fn paths_as_text() {
                         (None, Some(refusal)) => refusal.kind().to_string(),
                         (None, None) => "none".to_string(),
                     };
-                    format!("{edition} {answer}")
+                    if let Ok(AnyPath::Found(path)) =
+                        snapshot.any_path(question.namespace, question.definition, question.from)
+                    {
+                        kinds.insert((path.kind(), path.supers() > 1));
+                    }
+                    [format!("{edition} {answer}"), any_path(&snapshot, question)]
                 })
-                .collect();
+                .collect::<Vec<_>>()
+                .concat();
             assert_eq!(printed(&program, &made.words, &questions).lines().collect::<Vec<_>>(), lines, "seed {seed}");
         }
+        for kind in [PathKind::Plain, PathKind::SelfModule, PathKind::Crate, PathKind::Absolute] {
+            assert!(kinds.contains(&(kind, false)), "{kind}");
+        }
+        assert!(kinds.contains(&(PathKind::Super, false)) && kinds.contains(&(PathKind::Super, true)));
         let refused = format!("{}\n", RefusalKind::WrongKind);
         assert_eq!(printed(&program, &[0], &[]), refused);
         let refused = format!("{}\n", RefusalKind::TooManyWords);

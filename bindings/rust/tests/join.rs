@@ -229,20 +229,20 @@ fn filled(letter: char, count: usize) -> Snapshot {
 #[test]
 fn limits() {
     let kind = |first: &Snapshot, second: &Snapshot| join(first, second).map_err(|refusal| refusal.kind());
-    assert_eq!(kind(&crates(32), &crates(32)).unwrap().snapshot.counts().crates, CrateId::COUNT);
+    assert_eq!(kind(&crates(32), &crates(32)).unwrap().snapshot.counts().crates, Snapshot::MAX_CRATES);
     assert_eq!(kind(&crates(32), &crates(33)), Err(RefusalKind::JoinTooLarge));
     // names that both have are one
     let all = kind(&names(0, 1500), &names(1000, 2048)).unwrap();
-    assert_eq!(all.snapshot.counts().names, NameId::COUNT);
+    assert_eq!(all.snapshot.counts().names, Snapshot::MAX_NAMES);
     assert_eq!((all.second.name(NameId(0)), all.second.name(NameId(500))), (Some(NameId(1000)), Some(NameId(1500))));
     assert_eq!((all.second.name(NameId(1048)), all.first.name(NameId(1500))), (None, None));
     assert_eq!(kind(&names(0, 1500), &names(1000, 2049)), Err(RefusalKind::JoinTooLarge));
-    assert_eq!(kind(&modules(200), &modules(312)).unwrap().snapshot.counts().modules, ModuleId::COUNT);
+    assert_eq!(kind(&modules(200), &modules(312)).unwrap().snapshot.counts().modules, Snapshot::MAX_MODULES);
     assert_eq!(kind(&modules(200), &modules(313)), Err(RefusalKind::JoinTooLarge));
     assert_eq!(kind(&modules(312), &modules(201)), Err(RefusalKind::JoinTooLarge));
     // the builtin of both is one
     let all = kind(&definitions(1000), &definitions(1049)).unwrap();
-    assert_eq!(all.snapshot.counts().definitions, DefinitionId::COUNT);
+    assert_eq!(all.snapshot.counts().definitions, Snapshot::MAX_DEFINITIONS);
     assert_eq!(all.second.definition(DefinitionId(0)), Some(DefinitionId(0)));
     assert_eq!(all.second.definition(DefinitionId(1048)), Some(DefinitionId(2047)));
     assert_eq!(kind(&definitions(1000), &definitions(1050)), Err(RefusalKind::JoinTooLarge));

@@ -6,8 +6,8 @@ use std::collections::HashSet;
 use common::{WORKED, option_bits, printed, random};
 use kelumavor::record::{Child, Crate, Definition, Dependency, Extern, Map, Member, Module, Record};
 use kelumavor::{
-    DefinitionId, Entry, Import, MemberKind, ModuleId, Namespace, Outcome, Question, RefusalKind, Report, Snapshot,
-    SnapshotWords, Viewer, Visibility,
+    DefinitionId, Entry, Import, MemberKind, ModuleId, NameId, Namespace, Outcome, Question, RefusalKind, Report,
+    Snapshot, SnapshotWords, Viewer, Visibility,
 };
 
 /// Adds a record to those that are written.
@@ -40,6 +40,8 @@ fn records_in_any_order() {
         for (place, record) in snapshot.records() {
             assert_eq!(snapshot.record_at(place), Some(record));
         }
+        assert_eq!(snapshot.to_bytes(), SnapshotWords::from(&snapshot).to_bytes());
+        assert_eq!(Snapshot::from_bytes(&snapshot.to_bytes()).unwrap(), snapshot);
         let mut same = SnapshotWords::new();
         records.iter().for_each(|record| add(&mut same, record));
         assert_eq!(same.as_words(), made.words);
@@ -106,6 +108,25 @@ fn modules_of_maps_that_are_mixed() {
     assert!(records.contains(&Record::Extern(Extern { krate, name: g, root: ModuleId(1) })));
     assert!(records.contains(&Record::Definition(Definition::Other(ModuleId(2)))));
     assert!(records.contains(&Record::Module(Module { map, parent: Some(root) })));
+}
+
+/// What is added to the records of a snapshot comes after them, and a text that is there already is that name.
+#[test]
+fn records_after_those_of_a_snapshot() {
+    let worked = Snapshot::check(&WORKED).unwrap();
+    let mut words = SnapshotWords::from(&worked);
+    assert_eq!(words.name("f"), NameId(1));
+    assert_eq!(words.as_words(), WORKED);
+    let g = words.name("g");
+    let function = words.other_definition(ModuleId(1));
+    assert_eq!((g, function), (NameId(2), DefinitionId(2)));
+    words.add_entry(Entry::new(ModuleId(1), Namespace::Values, g, function));
+    let snapshot = Snapshot::check(words.as_words()).unwrap();
+    let line = |definition| {
+        let question = Question::new(Namespace::Values, definition, ModuleId(0));
+        snapshot.find_path(&question).to_string()
+    };
+    assert_eq!([line(DefinitionId(1)), line(function)], ["found a::f 1 0", "found a::g 1 0"]);
 }
 
 #[test]

@@ -108,7 +108,7 @@ fn misleading_paths_are_told() {
 fn limits() {
     let snapshot = Snapshot::check(&WORKED).unwrap();
     let ask = |limit| snapshot.find_path(&question(1, 1, 0, 1, 9).limit(limit));
-    for limit in 2..=Question::LIMIT {
+    for limit in 2..=Question::MAX_LIMIT {
         assert_eq!(ask(limit).to_string(), "found a::f 1 0");
     }
     assert_eq!(ask(1).to_string(), "none - 1 0");

@@ -15,9 +15,9 @@ fn names_have_1_to_255_bytes() {
     let mut words = SnapshotWords::new();
     let kind = |answer: Result<NameId, Refusal>| answer.unwrap_err().kind();
     assert_eq!(kind(words.try_name(b"")), RefusalKind::WrongField);
-    assert_eq!(kind(words.try_name(&[b'x'; Text::LIMIT + 1])), RefusalKind::WrongField);
+    assert_eq!(kind(words.try_name(&[b'x'; Text::MAX_BYTES + 1])), RefusalKind::WrongField);
     assert!(words.as_words().is_empty());
-    assert!(words.try_name(&[0xff; Text::LIMIT]).is_ok());
+    assert!(words.try_name(&[0xff; Text::MAX_BYTES]).is_ok());
     assert!(catch_unwind(|| SnapshotWords::new().name("")).is_err());
     assert!(catch_unwind(|| SnapshotWords::new().name(&"x".repeat(256))).is_err());
 }
@@ -108,13 +108,14 @@ fn bytes_are_the_words_lowest_byte_first() {
 fn counts_of_a_snapshot() {
     let refused = |words: &SnapshotWords| Snapshot::check(words.as_words()).err().map(|refusal| refusal.kind());
     let mut words = SnapshotWords::new();
-    for number in 0..NameId::COUNT {
+    for number in 0..Snapshot::MAX_NAMES {
         words.name(&number.to_string());
     }
     assert_eq!(refused(&words), None);
     words.name("more");
     assert_eq!(refused(&words), Some(RefusalKind::TooManyRecords));
-    for (crates, more) in [(CrateId::COUNT, None), (CrateId::COUNT + 1, Some(RefusalKind::TooManyRecords))] {
+    for (crates, more) in [(Snapshot::MAX_CRATES, None), (Snapshot::MAX_CRATES + 1, Some(RefusalKind::TooManyRecords))]
+    {
         let mut words = SnapshotWords::new();
         for _ in 0..crates {
             build::own_crate(&mut words);
@@ -122,9 +123,9 @@ fn counts_of_a_snapshot() {
         assert_eq!(refused(&words), more);
     }
     for (modules, definitions, more) in [
-        (ModuleId::COUNT, DefinitionId::COUNT, None),
-        (ModuleId::COUNT + 1, 0, Some(RefusalKind::TooManyRecords)),
-        (1, DefinitionId::COUNT + 1, Some(RefusalKind::TooManyRecords)),
+        (Snapshot::MAX_MODULES, Snapshot::MAX_DEFINITIONS, None),
+        (Snapshot::MAX_MODULES + 1, 0, Some(RefusalKind::TooManyRecords)),
+        (1, Snapshot::MAX_DEFINITIONS + 1, Some(RefusalKind::TooManyRecords)),
     ] {
         let mut words = SnapshotWords::new();
         let (_, map, root) = build::own_crate(&mut words);

@@ -6,9 +6,13 @@ use printing::input::ByteCount;
 use route_line::route::RoutedBytes;
 use snapshot::ids::WordCount;
 use std::io;
+use std::process::ExitCode;
 use streams::{read_input, say_unread, write_output};
 
-fn main(rt: HostRuntime) -> io::Result<()> {
+/// The status of a run that could not read its input or write its answer.
+const FAILED: u8 = 2;
+
+fn main(rt: HostRuntime) -> io::Result<ExitCode> {
     let alloc = rt.alloc();
     // One byte more than an input may have.
     let mut bytes = vec![in alloc; 0; ByteCount::INPUT + 1]?;
@@ -17,10 +21,14 @@ fn main(rt: HostRuntime) -> io::Result<()> {
     let mut out = vec![in alloc; 0; RoutedBytes::LIMIT]?;
     let Ok(n) = read_input(&rt, &mut bytes) else {
         say_unread(&rt);
-        return Ok(());
+        return Ok(ExitCode::from(FAILED));
     };
     let mut write = |line: &[u8]| write_output(&rt, line);
     // That a line cannot be written is said already.
-    let _ = each_line(&bytes[..n], &mut words, &mut area, &mut out, &mut write);
-    Ok(())
+    let written = each_line(&bytes[..n], &mut words, &mut area, &mut out, &mut write);
+    Ok(if written.is_ok() {
+        ExitCode::SUCCESS
+    } else {
+        ExitCode::from(FAILED)
+    })
 }

@@ -117,8 +117,8 @@ pub fn question(random: &mut Random, snapshot: &Snapshot) -> Question {
         old_names_last: random.chance(40),
         read_back: random.chance(40),
     };
-    let fuel = if random.chance(30) { random.below(8) } else { Question::FUEL };
-    let limit = if random.chance(50) { random.below(18) } else { Question::LIMIT };
+    let fuel = if random.chance(30) { random.below(8) } else { Question::MAX_FUEL };
+    let limit = if random.chance(50) { random.below(18) } else { Question::MAX_LIMIT };
     let namespace = NAMESPACES[random.below(20) as usize % 3];
     let definition = DefinitionId(random.below(snapshot.definitions + 1));
     let from = ModuleId(random.below(snapshot.modules + 1));
