@@ -23,7 +23,7 @@ FIELDS = {"crate_root"}
 # Names of a section that would meet a definition.
 LOCAL = {
     "crates/nameable/proofs/Private.antt": {"both_hold": "both_hold_lem"},
-    "crates/search_laws/proofs/Sim.antt": {"go_on": "goes_on"},
+    "crates/find_path_spec/proofs/laws/Sim.antt": {"go_on": "goes_on"},
 }
 USE = re.compile(r"(?m)^ *(?:pub )?use (Rattle\.[^\s{]+)\.\{([^}]*)\}")
 

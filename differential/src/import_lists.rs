@@ -14,7 +14,7 @@ pub trait ImportLists {
     fn write(&mut self, words: &[u32], area: &mut [u32], krate: usize, target: &mut [u32]) -> (usize, usize);
 }
 
-/// The definitions in `crates/import_order/specs`.
+/// The definitions in `crates/imports/specs/order`.
 pub struct Definitions;
 
 impl ImportLists for Definitions {

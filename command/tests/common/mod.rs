@@ -21,7 +21,7 @@ pub fn repository(file: &str) -> PathBuf {
     PathBuf::from(env!("CARGO_MANIFEST_DIR")).join("..").join(file)
 }
 
-/// The words of a line of `crates/refusals/stdin`, of which `crates/case_text` says how it is written.
+/// The words of a line of `crates/refusals/stdin`, of which `crates/streams` says how it is written.
 pub fn read_words(text: &str) -> Vec<u32> {
     let mut words = Vec::new();
     for part in text.split_ascii_whitespace() {

@@ -21,7 +21,7 @@ use Rattle.check_rules.specs.Tests.{same_prelude, scope_defined, scope_range}
 use Rattle.check_rules.specs.Steps.{Next, no, on, need, judge, judge_crate, add_name, add_crate, add_dependency, add_map, add_module, add_child, add_prelude}
 use Rattle.check_rules.specs.Steps.{add_definition, add_scope, add_import, add_extern, add_member, name_step, crate_step, dependency_step, map_step}
 use Rattle.check_rules.specs.Steps.{module_step, child_step, prelude_step, definition_step, scope_step, import_step, extern_step, member_step}
-use Rattle.record_rules.proofs.Judged.{CratePassed}
+use Rattle.check_records.proofs.record_rules.Judged.{CratePassed}
 use Rattle.accept.specs.Valid.{Stands}
 use Rattle.check_rules.specs.Verdict.{follows, arguments_from, record_step, step_at, refuse, accept, finish, records, empty, verdict}
 

@@ -20,18 +20,18 @@ use Rattle.snapshot.specs.declared.layout.Layout.{Layout}
 use Rattle.snapshot.proofs.Laws.{length_rows, get_d_rows}
 use Rattle.check_rules.specs.Tests.{no_map, is_own, is_in, maps_filled, crates_own}
 use Rattle.check_rules.specs.Verdict.{accept, finish, verdict}
-use Rattle.record_rules.specs.Stands.{own_of, Stands, Rooted}
+use Rattle.check_records.specs.record_rules.Stands.{own_of, Stands, Rooted}
 use Rattle.record_index.specs.Index.{Index, Sized}
 use Rattle.accept.specs.Post.{Judged}
 use Rattle.accept.specs.Ends.{Ended}
 use Rattle.std.specs.Prelude.{Ok, Err}
 use Rattle.snapshot.specs.declared.refusal.Refusal.TheVariants.{Words, Place}
 use Rattle.accept.specs.declared.check.Refused.{Refused}
-use Rattle.record_rules.proofs.Judged.{and_left, and_right}
+use Rattle.check_records.proofs.record_rules.Judged.{and_left, and_right}
 use Rattle.accept.proofs.Valid.{accepted_valid}
 use Rattle.accept.proofs.Reading.{dependency_read, scope_read, import_read, extern_read}
-use Rattle.module_records.proofs.Regions.{own_any}
-use Rattle.record_rules.proofs.Tabled.{Kept, names_kept, modules_kept, heads_kept}
+use Rattle.check_records.proofs.module_records.Regions.{own_any}
+use Rattle.check_records.proofs.record_rules.Tabled.{Kept, names_kept, modules_kept, heads_kept}
 
 -- tests over numbered things
 

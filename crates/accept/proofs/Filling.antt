@@ -10,7 +10,7 @@ use lib.Dec.{eqb}
 use borrow.Author.Tests.{eqb-true, eqb-false}
 use Rattle.snapshot.specs.Limits.{module_limit, area_limit}
 use Rattle.snapshot.specs.Layouts.{module_map, map_root, own_map, module_table, root_table, crate_table, row_words}
-use Rattle.record_rules.specs.Stands.{Rooted}
+use Rattle.check_records.specs.record_rules.Stands.{Rooted}
 
 -- the modules from m on have their maps' first modules from m on in the table
 pub record Filled (A₀ A : List ℕ) (n m : ℕ) : Type 0 where

@@ -5,7 +5,7 @@ use mathlib.Core.List.{List, []}
 use native.Mathlib.Omega.{arith}
 use lib.ListN.{length, get_or}
 use borrow.Author.Tests.{lt-ltb, le-ltb, le-leb}
-use Rattle.chains.specs.Chains.{marks_end}
+use Rattle.check_records.specs.chains.Chains.{marks_end}
 use Rattle.snapshot.specs.Lists.{rows}
 use Rattle.snapshot.specs.Limits.{word_limit, area_limit}
 use Rattle.snapshot.specs.Words.{kind_of, arguments_at}
@@ -14,9 +14,9 @@ use Rattle.snapshot.specs.Layouts.{no_records, snap_with, row_words}
 use Rattle.snapshot.specs.declared.layout.Layout.{Layout}
 use Rattle.check_rules.specs.Steps.{no, on}
 use Rattle.check_rules.specs.Verdict.{step_at, refuse, finish, records, verdict}
-use Rattle.record_rules.specs.Stands.{Here, Stands, Answered}
+use Rattle.check_records.specs.record_rules.Stands.{Here, Stands, Answered}
 use Rattle.accept.specs.Ends.{Ended}
-use Rattle.record_rules.proofs.Indexed.{indexes_none}
+use Rattle.check_records.proofs.record_rules.Indexed.{indexes_none}
 use Rattle.std.specs.Prelude.{Result, Ok, Err, MatchResult}
 use Rattle.std.specs.Result.{IsErrAnd}
 use Rattle.snapshot.specs.Refusals.{refusal_number}

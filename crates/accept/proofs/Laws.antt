@@ -9,7 +9,7 @@ use lib.Dec.{eqb, ltb}
 use borrow.Author.Tests.{eq-eqb, ne_eqb, lt-ltb, le-ltb}
 use Rattle.snapshot.specs.Words.{kind_of}
 use Rattle.check_rules.specs.Verdict.{arguments_from}
-pub use Rattle.record_rules.proofs.Laws.{or_yes, or_no, and_no, and_yes}
+pub use Rattle.check_records.proofs.record_rules.Laws.{or_yes, or_no, and_no, and_yes}
 
 -- a loop over argument words
 module _ (W : List ℕ) (whole : Bool) (i left : ℕ) (e : whole ≡ arguments_from W i left) where

@@ -9,7 +9,7 @@ use Rattle.snapshot.specs.Layouts.{module_row, module_head, map_root, snap_of}
 use Rattle.snapshot.specs.declared.layout.Layout.{Layout}
 use Rattle.snapshot.proofs.Laws.{length_rows}
 use Rattle.check_rules.specs.Tests.{Counts, counts_of}
-use Rattle.record_rules.specs.Stands.{counts_in}
+use Rattle.check_records.specs.record_rules.Stands.{counts_in}
 use Rattle.accept.specs.Valid.{CrateFits, DependencyFits, MapFits, ModuleFits, ChildFits, PreludeFits, DefinitionFits, ScopeFits, ImportFits}
 use Rattle.accept.specs.Valid.{ExternFits, MemberFits, Ranges, Valid}
 use Rattle.accept.proofs.Bools.{each_rows}

@@ -16,12 +16,12 @@ use Rattle.snapshot.specs.declared.layout.Layout.{Layout}
 use Rattle.snapshot.proofs.Laws.{rows_ext}
 use Rattle.check_rules.specs.Tests.{no_map}
 use Rattle.check_rules.specs.Verdict.{accept}
-use Rattle.record_rules.specs.Stands.{own_of}
+use Rattle.check_records.specs.record_rules.Stands.{own_of}
 use Rattle.record_index.proofs.Ranging.{index_stays}
 use Rattle.accept.specs.Post.{Tables, Reads, Judged, Checks, check_of, outcome, Readable, Checked}
 use Rattle.std.specs.Prelude.{Ok, Err}
 use Rattle.snapshot.specs.declared.refusal.Refusal.TheVariants.{Area}
-use Rattle.record_rules.proofs.Tabled.{Kept, names_kept, modules_kept, heads_kept}
+use Rattle.check_records.proofs.record_rules.Tabled.{Kept, names_kept, modules_kept, heads_kept}
 
 module _ (W A B : List ℕ) (l : Layout) (t : Tables W A l) (kept : Kept A B 0 table_words) where
   map_stays : (m : ℕ) → m < l.modules → module_map B m ≡ module_map A m

@@ -18,10 +18,10 @@ use Rattle.snapshot.specs.Layouts.{snap_with}
 use Rattle.snapshot.specs.declared.layout.Layout.{Layout}
 use Rattle.check_rules.specs.Steps.{Next, no, need}
 use Rattle.check_rules.specs.Verdict.{follows, arguments_from, record_step, step_at}
-use Rattle.record_rules.specs.Stands.{Here, Ready, Stands, Answered}
+use Rattle.check_records.specs.record_rules.Stands.{Here, Ready, Stands, Answered}
 use Rattle.std.specs.Prelude.{Result}
 use Rattle.snapshot.specs.declared.refusal.Refusal.{Refusal}
-use Rattle.record_rules.proofs.Judged.{and_left, and_right}
+use Rattle.check_records.proofs.record_rules.Judged.{and_left, and_right}
 
 pub answers_at : (W A : List ℕ) (r : Result Layout Refusal) {k j n m : ℕ} {x y : Next} → k ≡ j → n ≡ m → x ≡ y → Answered W A j m y r → Answered W A k n x r
 answers_at W A r {k} {j} {n} {m} {x} {y} e f g a =

@@ -4,7 +4,7 @@ use Rattle.snapshot.specs.Refusals.{refusal_number}
 use Rattle.snapshot.specs.Records.{Map}
 use Rattle.snapshot.specs.Layouts.{snap_with}
 use Rattle.check_rules.specs.Verdict.{refuse, finish, verdict}
-use Rattle.record_rules.specs.Stands.{Stands}
+use Rattle.check_records.specs.record_rules.Stands.{Stands}
 use Rattle.accept.specs.Post.{Checked}
 
 -- a record is refused, or the verdict is that of the last tests

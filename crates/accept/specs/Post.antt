@@ -8,7 +8,7 @@ use Rattle.snapshot.specs.Layouts.{word_count, name_head, module_map, module_hea
 use Rattle.snapshot.specs.declared.layout.Layout.{Layout}
 use Rattle.check_rules.specs.Verdict.{Verdict, refuse, accept, verdict}
 use Rattle.check_rules.specs.Tests.{no_map}
-use Rattle.record_rules.specs.Stands.{Limited, own_of}
+use Rattle.check_records.specs.record_rules.Stands.{Limited, own_of}
 use Rattle.record_index.specs.Index.{Index}
 use Rattle.accept.specs.declared.check.Refused.{Refused}
 

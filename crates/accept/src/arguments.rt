@@ -2,7 +2,7 @@
 ghost use Rattle.std.specs.Prelude.{◌≡◌, ◌+◌, ◌^◌, ◌<◌};
 ghost use Rattle.check_rules.specs.Verdict.{arguments_from};
 
-use snapshot::words::kind;
+use snapshot::reading::kind;
 
 /// Whether n argument words stand from a place on.
 pub fn arguments_from(words: &[u32], at: usize, n: usize) -> bool

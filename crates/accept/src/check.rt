@@ -6,14 +6,14 @@ ghost use Rattle.accept.specs.Ends.{Ended};
 
 use crate::finish::{crates_own, fill_roots, maps_filled};
 use crate::turn::turn;
-use chains::chain::{Chains, clear};
+use check_records::chains::chain::{Chains, clear};
 use record_index::index_records;
 use snapshot::ids::WordCount;
 use snapshot::kind::arguments;
 use snapshot::layout::Layout;
+use snapshot::reading::kind;
 use snapshot::records::Records;
 use snapshot::refusal::Refusal;
-use snapshot::words::kind;
 
 /// Why words are refused, and where: at the offset of a record, or at the number of words for a fault after the last.
 #[derive(Clone, Copy, PartialEq, Eq)]

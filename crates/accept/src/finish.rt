@@ -4,9 +4,9 @@ ghost use Rattle.snapshot.specs.Lists.{rows, any, all};
 ghost use Rattle.snapshot.specs.Limits.{crate_limit, module_limit, area_limit};
 ghost use Rattle.snapshot.specs.Layouts.{modules_of, module_map, own_map};
 ghost use Rattle.check_rules.specs.Tests.{is_in};
-ghost use Rattle.record_rules.specs.Stands.{Rooted};
+ghost use Rattle.check_records.specs.record_rules.Stands.{Rooted};
 
-use module_records::modules::has_module;
+use check_records::module_records::modules::has_module;
 use snapshot::ids::{Crate, ModuleId};
 use snapshot::table::{Tables, module_map, own_map};
 

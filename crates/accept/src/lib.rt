@@ -1,4 +1,5 @@
 //! The check of a snapshot: which words are one, and by which number the others are refused.
+//! Uses the steps of `check_records` and the index.
 #![tactic(auto)]
 
 mod arguments;

@@ -5,13 +5,13 @@ ghost use Rattle.snapshot.specs.Words.{kind_of, arguments_at};
 ghost use Rattle.snapshot.specs.Records.{Map};
 ghost use Rattle.snapshot.specs.Layouts.{snap_with};
 ghost use Rattle.check_rules.specs.Verdict.{follows as follows_of, record_step, step_at};
-ghost use Rattle.record_rules.specs.Stands.{Ready, Here, Stands, Answered};
+ghost use Rattle.check_records.specs.record_rules.Stands.{Ready, Here, Stands, Answered};
 
 use crate::arguments::arguments_from;
 use snapshot::kind::{Kind, arguments};
 use snapshot::layout::Layout;
+use snapshot::reading::kind;
 use snapshot::refusal::Refusal;
-use snapshot::words::kind;
 
 // Whether a record of a kind may follow one of the last kind.
 fn follows(last: usize, kind: Kind) -> bool
@@ -36,18 +36,18 @@ fn by_kind(
         (record_step (kind_number kind) words.now at (snap_with words.now area.old l ms)) result }
 {
     match kind {
-        Kind::Name => record_rules::names::step(words, area, l, at),
-        Kind::Crate => module_records::crates::step(words, area, l, at),
-        Kind::Dependency => records::dependencies::step(words, area, l, at),
-        Kind::Map => module_records::maps::step(words, area, l, at),
-        Kind::Module => module_records::modules::step(words, area, l, at),
-        Kind::Child => records::children::step(words, area, l, at),
-        Kind::Prelude => records::preludes::step(words, area, l, at),
-        Kind::Definition => item_records::definitions::step(words, area, l, at),
-        Kind::Scope => item_records::scopes::step(words, area, l, at),
-        Kind::Import => item_records::imports::step(words, area, l, at),
-        Kind::Extern => item_records::externs::step(words, area, l, at),
-        Kind::Member => item_records::members::step(words, area, l, at),
+        Kind::Name => check_records::record_rules::names::step(words, area, l, at),
+        Kind::Crate => check_records::module_records::crates::step(words, area, l, at),
+        Kind::Dependency => check_records::records::dependencies::step(words, area, l, at),
+        Kind::Map => check_records::module_records::maps::step(words, area, l, at),
+        Kind::Module => check_records::module_records::modules::step(words, area, l, at),
+        Kind::Child => check_records::records::children::step(words, area, l, at),
+        Kind::Prelude => check_records::records::preludes::step(words, area, l, at),
+        Kind::Definition => check_records::item_records::definitions::step(words, area, l, at),
+        Kind::Scope => check_records::item_records::scopes::step(words, area, l, at),
+        Kind::Import => check_records::item_records::imports::step(words, area, l, at),
+        Kind::Extern => check_records::item_records::externs::step(words, area, l, at),
+        Kind::Member => check_records::item_records::members::step(words, area, l, at),
     }
 }
 

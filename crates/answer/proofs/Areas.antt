@@ -10,10 +10,10 @@ use Rattle.std.specs.Array.{IsFirstChunk}
 use lib.ListN.{length, set, drop, replicate, drop_of_length-le}
 use Rattle.snapshot.specs.Limits.{area_limit}
 use Rattle.snapshot.specs.Refusals.{area_refusal}
-use Rattle.find_path.specs.declared.Question.{Question}
-use Rattle.find_path.specs.declared.Report.{Report}
-use Rattle.find_path.specs.Report.{call_fault, refused, report_of}
-use Rattle.checked.proofs.Laws.{small, report_fault, same_report}
+use Rattle.find_path_spec.specs.declared.Question.{Question}
+use Rattle.find_path_spec.specs.declared.Report.{Report}
+use Rattle.find_path_spec.specs.Report.{call_fault, refused, report_of}
+use Rattle.answer.proofs.checked.Laws.{small, report_fault, same_report}
 use Rattle.answer.specs.Answers.{zeros, area_after, Answers}
 
 -- the front of an area

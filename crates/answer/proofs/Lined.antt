@@ -11,10 +11,10 @@ use Rattle.snapshot.specs.Records.{Snapshot}
 use Rattle.check_rules.specs.Verdict.{verdict}
 use Rattle.printing.specs.Output.{Put}
 use Rattle.printing.proofs.Laws.{put_as, put_whole}
-use Rattle.find_path.specs.declared.Question.{Question}
-use Rattle.find_path.specs.declared.Report.{Report}
-use Rattle.find_path.specs.Report.{refused, report_of}
-use Rattle.find_path.specs.Line.{bytes_of, line_in, line_of, snapshot_of}
+use Rattle.find_path_spec.specs.declared.Question.{Question}
+use Rattle.find_path_spec.specs.declared.Report.{Report}
+use Rattle.find_path_spec.specs.Report.{refused, report_of}
+use Rattle.find_path_spec.specs.Line.{bytes_of, line_in, line_of, snapshot_of}
 use Rattle.answer.specs.Answers.{zeros, area_after, Answers}
 use Rattle.answer.specs.Lined.{ended_line, Lined}
 use Rattle.answer.proofs.Areas.{answers_small, answers_large}

@@ -7,17 +7,17 @@ use native.Mathlib.Decide.{dec_le}
 use lib.ListN.{length}
 use Rattle.snapshot.specs.Limits.{fuel_limit, area_limit}
 use Rattle.snapshot.specs.Refusals.{area_refusal, fuel_refusal}
-use Rattle.find_path.specs.declared.Query.{Query}
-use Rattle.find_path.specs.declared.Question.{Question}
-use Rattle.find_path.specs.declared.Report.{Report}
-use Rattle.find_path.specs.Report.{refused, report_of}
-use Rattle.search_laws.specs.Fuels.{IsRefused, Compared}
-use Rattle.find_path.specs.Report.{report_at}
-use Rattle.search_laws.proofs.Fuels.{fuels_compared}
+use Rattle.find_path_spec.specs.declared.Query.{Query}
+use Rattle.find_path_spec.specs.declared.Question.{Question}
+use Rattle.find_path_spec.specs.declared.Report.{Report}
+use Rattle.find_path_spec.specs.Report.{refused, report_of}
+use Rattle.find_path_spec.specs.laws.Fuels.{IsRefused, Compared}
+use Rattle.find_path_spec.specs.Report.{report_at}
+use Rattle.find_path_spec.proofs.laws.Fuels.{fuels_compared}
 use Rattle.answer.specs.Answers.{Answers}
 use Rattle.answer.specs.Twice.{FuelsTold, AnswersTwice}
 use Rattle.answer.specs.declared.twice.Reports.{Reports}
-use Rattle.checked.proofs.Laws.{small, much, report_fault, same_report}
+use Rattle.answer.proofs.checked.Laws.{small, much, report_fault, same_report}
 
 module _ (W : List ℕ) (n : ℕ) (q : Question) where
   refused_two : (k : ℕ) → IsRefused (refused k)

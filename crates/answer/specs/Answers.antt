@@ -1,9 +1,9 @@
 -- What an entry point promises: the report, and the work area.
 use Rattle.std.specs.Prelude.{ℕ, ◌≡◌, List, ◌++◌, true, false, ltb, length, drop, replicate}
 use Rattle.snapshot.specs.Limits.{area_limit}
-use Rattle.find_path.specs.declared.Question.{Question}
-use Rattle.find_path.specs.declared.Report.{Report}
-use Rattle.find_path.specs.Report.{report_of}
+use Rattle.find_path_spec.specs.declared.Question.{Question}
+use Rattle.find_path_spec.specs.declared.Report.{Report}
+use Rattle.find_path_spec.specs.Report.{report_of}
 
 unfoldable pub zeros : ℕ → List ℕ
 zeros n = replicate n 0

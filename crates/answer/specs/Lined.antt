@@ -2,9 +2,9 @@
 use Rattle.std.specs.Prelude.{ℕ, ◌≡◌, List, [], ◌++◌, true, false, ltb, length, drop}
 use Rattle.snapshot.specs.Limits.{line_limit}
 use Rattle.check_rules.specs.Verdict.{verdict}
-use Rattle.find_path.specs.declared.Question.{Question}
-use Rattle.find_path.specs.Report.{report_of}
-use Rattle.find_path.specs.Line.{bytes_of, line_in, snapshot_of}
+use Rattle.find_path_spec.specs.declared.Question.{Question}
+use Rattle.find_path_spec.specs.Report.{report_of}
+use Rattle.find_path_spec.specs.Line.{bytes_of, line_in, snapshot_of}
 use Rattle.answer.specs.Answers.{area_after}
 
 -- the line of a question and its end, with a work area of so many words; nothing where there is no room for the longest line

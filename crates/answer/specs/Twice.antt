@@ -2,10 +2,10 @@
 use Rattle.std.specs.Prelude.{ℕ, ◌≤◌, ◌<◌, ◌≡◌, List, ◌↔◌}
 use Rattle.snapshot.specs.Records.{Snapshot}
 use Rattle.check_rules.specs.Verdict.{accept, verdict}
-use Rattle.find_path.specs.declared.Query.{Query}
-use Rattle.find_path.specs.declared.Report.{Report}
-use Rattle.find_path.specs.Report.{searched_freely}
-use Rattle.search_laws.specs.Fuels.{IsRefused, Tells}
+use Rattle.find_path_spec.specs.declared.Query.{Query}
+use Rattle.find_path_spec.specs.declared.Report.{Report}
+use Rattle.find_path_spec.specs.Report.{searched_freely}
+use Rattle.find_path_spec.specs.laws.Fuels.{IsRefused, Tells}
 use Rattle.answer.specs.Answers.{Answers}
 use Rattle.answer.specs.declared.twice.Reports.{Reports}
 

@@ -2,15 +2,15 @@
 ghost use Rattle.std.specs.Prelude.{◌≡◌, ◌++◌, ◌≤◌, length};
 ghost use Rattle.snapshot.specs.Limits.{area_limit, line_limit};
 ghost use Rattle.printing.specs.Output.{Put};
-ghost use Rattle.find_path.specs.Line.{bytes_of, line_of};
+ghost use Rattle.find_path_spec.specs.Line.{bytes_of, line_of};
 ghost use Rattle.answer.specs.Answers.{zeros};
 ghost use Rattle.answer.specs.Lined.{Lined};
 
 use crate::area::{clear, clear_front};
+use crate::checked::lines::line_on;
 use accept::check::check;
-pub use checked::lines::LineBytes;
-use checked::lines::{line_on, put_refusal};
-use find_path::Question;
+use find_path_spec::Question;
+use line::{LineBytes, put_refusal};
 use snapshot::ids::Area;
 use snapshot::refusal::Refusal;
 

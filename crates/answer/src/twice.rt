@@ -1,8 +1,8 @@
 //! A question with two fuels.
 ghost use Rattle.answer.specs.Twice.{AnswersTwice};
 
-use crate::answer::find_path;
-use find_path::{Query, Question, Report};
+use crate::find_path;
+use find_path_spec::{Query, Question, Report};
 
 /// The reports of one question with two fuels.
 #[derive(Clone, Copy)]

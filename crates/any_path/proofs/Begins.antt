@@ -14,8 +14,8 @@ use Rattle.snapshot.specs.declared.layout.Layout.{Layout}
 use Rattle.accept.specs.Post.{Reads}
 use Rattle.accept.specs.Valid.{Valid}
 use Rattle.accept.proofs.Valid.{accepted_valid}
-use Rattle.tree_rules.specs.Modules.{parent_of, crate_root}
-use Rattle.tree_rules.specs.Privately.{module_around}
+use Rattle.module_tree.specs.rules.Modules.{parent_of, crate_root}
+use Rattle.module_tree.specs.rules.Privately.{module_around}
 use Rattle.module_tree.proofs.Laws.{by_number}
 use Rattle.module_tree.proofs.Chains.{parent_fits}
 use Rattle.module_tree.proofs.Roots.{crate_root_known}

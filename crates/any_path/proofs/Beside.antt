@@ -4,7 +4,7 @@ use Prim.Native.String.{String}
 use mathlib.Core.Path.{◌≡◌, refl}
 use mathlib.Core.List.{[], ◌∷◌}
 use mathlib.Core.Bool.{true}
-use Rattle.find_path.proofs.Worked.{Row, row_at, row, passes}
+use Rattle.find_path_spec.proofs.Worked.{Row, row_at, row, passes}
 use Rattle.nameable.proofs.Worked.{head, letter, entry, workspace}
 
 -- definition, namespace, viewing module, prefix (1 plain, 2 by crate), and the line

@@ -16,13 +16,13 @@ use Rattle.snapshot.specs.declared.layout.Layout.{Layout}
 use Rattle.snapshot.proofs.Laws.{rows_next, rows_none, rows_whole}
 use Rattle.accept.specs.Post.{Reads}
 use Rattle.check_rules.specs.Tests.{same_extern}
-use Rattle.record_rules.specs.Stands.{counts_in}
+use Rattle.check_records.specs.record_rules.Stands.{counts_in}
 use Rattle.accept.specs.Valid.{Valid, ExternFits}
 use Rattle.accept.proofs.Accepted.{by_test}
 use Rattle.accept.proofs.Bools.{and_two}
 use Rattle.accept.proofs.Reading.{extern_read}
 use Rattle.accept.proofs.Valid.{accepted_valid}
-use Rattle.tree_rules.specs.Modules.{crate_of}
+use Rattle.module_tree.specs.rules.Modules.{crate_of}
 use Rattle.hir_def.specs.Finds.{select}
 use Rattle.hir_def.specs.Items.{types, crate_data, module_item}
 use Rattle.hir_def.specs.declared.Item.{Item}

@@ -9,7 +9,7 @@ use Rattle.snapshot.specs.Limits.{module_limit}
 use Rattle.snapshot.specs.Records.{Snapshot}
 use Rattle.accept.proofs.Accepted.{by_test}
 use Rattle.accept.proofs.Bools.{each_rows}
-use Rattle.tree_rules.specs.Modules.{crate_of}
+use Rattle.module_tree.specs.rules.Modules.{crate_of}
 use Rattle.hir_def.specs.Finds.{first_of}
 use Rattle.hir_def.specs.Items.{types, crate_data, module_item}
 use Rattle.hir_def.specs.declared.Item.{Item}

@@ -24,8 +24,8 @@ use Rattle.accept.specs.Valid.{Each, more, Valid}
 use Rattle.accept.proofs.Accepted.{by_test}
 use Rattle.accept.proofs.Trees.{accepted_tree}
 use Rattle.accept.proofs.Valid.{accepted_valid}
-use Rattle.tree_rules.specs.Modules.{map_no, crate_of}
-use Rattle.tree_rules.specs.Privately.{block_step}
+use Rattle.module_tree.specs.rules.Modules.{map_no, crate_of}
+use Rattle.module_tree.specs.rules.Privately.{block_step}
 use Rattle.module_tree.proofs.Laws.{Falls}
 use Rattle.module_tree.proofs.Reading.{length_modules}
 use Rattle.hir_def.specs.Finds.{first_of, first_some, or_first, select}
@@ -43,8 +43,8 @@ use Rattle.nameable.proofs.Plenty.{plenty}
 use Rattle.nameable.proofs.Reached.{each_append, each_in, named_in_lem}
 use Rattle.nameable.proofs.Queue.{added_append, first_of_append}
 use Rattle.nameable.proofs.Lookups.{named_seen, first_mapped}
-use Rattle.readings.specs.Reads.{extern_named as extern_of_name}
-use Rattle.seen_entries.proofs.Laws.{step_falls}
+use Rattle.read_back.specs.readings.Reads.{extern_named as extern_of_name}
+use Rattle.any_path.proofs.seen_entries.Laws.{step_falls}
 use Rattle.any_path.specs.Rows.{path_from, run_at, Run, Stays, Grown, Offered, leads_on, name_if}
 use Rattle.any_path.specs.Plain.{scopes_named, externs_named, named_in, prelude_named, module_no, module_in, is_module, names_alone}
 use Rattle.any_path.proofs.Taken.{unchanged, as_run, grown_then, stays_snap}

@@ -14,7 +14,7 @@ use Rattle.snapshot.specs.Layouts.{scope_base, snap_of}
 use Rattle.snapshot.specs.declared.layout.Layout.{Layout}
 use Rattle.snapshot.proofs.Laws.{rows_next, rows_none, rows_whole}
 use Rattle.accept.specs.Post.{Reads}
-use Rattle.record_rules.specs.Stands.{counts_in}
+use Rattle.check_records.specs.record_rules.Stands.{counts_in}
 use Rattle.accept.specs.Valid.{ScopeFits}
 use Rattle.accept.proofs.Bools.{and_two}
 use Rattle.accept.proofs.Stable.{snap_stays, reads_stay}

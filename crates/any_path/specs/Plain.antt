@@ -2,7 +2,7 @@
 use Rattle.std.specs.Prelude.{ℕ, suc, List, map, Bool, true, false, eqb}
 use Rattle.std.specs.Prelude.{Option, None, Some}
 use Rattle.snapshot.specs.Records.{Snapshot, Scope, Prelude, Extern, scope_at, extern_at}
-use Rattle.tree_rules.specs.Modules.{map_no, crate_of}
+use Rattle.module_tree.specs.rules.Modules.{map_no, crate_of}
 use Rattle.hir_def.specs.Finds.{first_some, select}
 use Rattle.hir_def.specs.Items.{types}
 use Rattle.hir_def.specs.Nameres.{prelude_of}
@@ -10,7 +10,7 @@ use Rattle.hir_def.specs.declared.Item.{Item}
 use Rattle.hir_def.specs.declared.Item.TheVariants.{Mod, Def}
 use Rattle.nameable.specs.Paths.{Path, plain, Named, as_named, extern_named, scopes_from}
 use Rattle.nameable.specs.Queue.{seen_named}
-use Rattle.readings.specs.Reads.{extern_named as extern_of_name}
+use Rattle.read_back.specs.readings.Reads.{extern_named as extern_of_name}
 use Rattle.any_path.specs.declared.plain.Reading.{Reading}
 use Rattle.any_path.specs.declared.plain.Reading.TheVariants.{Scope as ByScope, Extern as ByExtern}
 

@@ -10,9 +10,9 @@ ghost use Rattle.nameable.specs.Queue.{begun};
 ghost use Rattle.any_path.specs.Rows.{row_at, run_at, Run, Grown};
 
 use crate::rows::{Row, offer};
+use crate::seen_entries::privacy::module_around;
 use accept::opened::Snapshot;
 use module_tree::modules::{crate_root, parent};
-use seen_entries::privacy::module_around;
 use snapshot::ids::ModuleId;
 use snapshot::records::Records;
 

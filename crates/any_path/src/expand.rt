@@ -3,7 +3,7 @@ ghost use Rattle.std.specs.Prelude.{◌≡◌, ◌<◌};
 ghost use Rattle.snapshot.specs.Records.{scope_at};
 ghost use Rattle.snapshot.specs.Laid.{snap_by};
 ghost use Rattle.accept.specs.Post.{Reads};
-ghost use Rattle.record_rules.specs.Stands.{counts_in};
+ghost use Rattle.check_records.specs.record_rules.Stands.{counts_in};
 ghost use Rattle.accept.specs.Valid.{ScopeFits};
 ghost use Rattle.accept.specs.Opened.{snap_in};
 ghost use Rattle.hir_def.specs.Items.{types};
@@ -12,16 +12,16 @@ ghost use Rattle.nameable.specs.Queue.{paths_after};
 ghost use Rattle.any_path.specs.Rows.{way_at, run_at, Run, Grown, leads_on, with_entry, Meant};
 
 use crate::rows::{Row, offer};
+use crate::seen_entries::entries::seen;
 use accept::opened::Snapshot;
 use hir_def::View;
+use hir_def::item_scope::is_module_entry;
 use hir_def::items::first_of;
-use item_scope::is_module_entry;
-use seen_entries::entries::seen;
 use snapshot::ids::ModuleId;
 use snapshot::kind::Size;
+use snapshot::reading::word;
 use snapshot::record::{scope_definition, scope_name};
 use snapshot::records::Records;
-use snapshot::words::word;
 
 // Whether the entry with its head at a place leads on from the module to another.
 pub(crate) fn leads_on(view: &View, m: ModuleId, h: usize) -> bool

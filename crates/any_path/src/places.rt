@@ -11,10 +11,10 @@ ghost use Rattle.any_path.specs.Rows.{path_at, InRun};
 
 use crate::plain::{externs_named, place_read, read_plain};
 use crate::rows::Row;
+use crate::seen_entries::lookups::entry_named;
 use hir_def::View;
-use seen_entries::lookups::entry_named;
 use snapshot::ids::{ModuleId, Name, Namespace};
-use snapshot::words::word;
+use snapshot::reading::word;
 
 // The place of an entry or an extern, 0 for none: a row holds it as a word of the work area.
 fn entry_place(e: Option<usize>) -> usize

@@ -10,14 +10,14 @@ ghost use Rattle.hir_def.specs.Items.{item_of};
 ghost use Rattle.nameable.specs.Paths.{plain, reads, place_in};
 ghost use Rattle.any_path.specs.Plain.{scopes_named, externs_named, prelude_named, record_read, module_no, module_in};
 
-use crate_graph::prelude_of;
+use crate::seen_entries::lookups::entry_named;
+use crate::seen_entries::privacy::block_step;
+use hir_def::crate_graph::prelude_of;
 use hir_def::finds::nearest;
 use hir_def::items::item_at;
 use hir_def::{Item, View};
 use module_tree::modules::{krate, map};
 use read_back::lookups::extern_named;
-use seen_entries::lookups::entry_named;
-use seen_entries::privacy::block_step;
 use snapshot::ids::{ModuleId, Name, Namespace};
 use snapshot::record::{extern_target, prelude_target};
 use snapshot::records::Records;

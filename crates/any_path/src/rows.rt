@@ -4,8 +4,8 @@ ghost use Rattle.snapshot.specs.Limits.{module_limit};
 ghost use Rattle.nameable.specs.Breadth.{is_met};
 ghost use Rattle.any_path.specs.Rows.{run_at, Run, Offered};
 
+use snapshot::reading::word;
 use snapshot::table::Tables;
-use snapshot::words::word;
 
 /// The module, the link (0 a keyword, 1 `::n`, 2 `n`, 3 and more a name after the path of a row), the name or keyword, and the place of the record.
 // `link` is a number and no enum: it is a word of the row, `LastStep` passes it on as it stands, and the definition `path_from` takes it apart,

@@ -3,7 +3,7 @@ ghost use Rattle.std.specs.Prelude.{false, ◌<◌};
 ghost use Rattle.snapshot.specs.Records.{extern_at};
 ghost use Rattle.snapshot.specs.Laid.{snap_by};
 ghost use Rattle.accept.specs.Post.{Reads};
-ghost use Rattle.record_rules.specs.Stands.{counts_in};
+ghost use Rattle.check_records.specs.record_rules.Stands.{counts_in};
 ghost use Rattle.accept.specs.Valid.{ExternFits};
 ghost use Rattle.hir_def.specs.Items.{types};
 ghost use Rattle.nameable.specs.Breadth.{added, single};

@@ -24,7 +24,7 @@ use Rattle.check_rules.specs.Verdict.{refuse, accept, verdict}
 use Rattle.accept.specs.Post.{Checked, check_of, outcome}
 use Rattle.printing.specs.Output.{Put, bytes_of}
 use Rattle.check_snapshot.specs.Verdict.{words_of, verdict_of}
-use Rattle.wording.specs.Text.{refusal, asked_there, line, first_lines, last_lines}
+use Rattle.printing.specs.wording.Text.{refusal, asked_there, line, first_lines, last_lines}
 use Rattle.check_snapshot.specs.Text.{asks, asks_at, refused_text, text_of}
 
 -- the verdict

@@ -3,7 +3,7 @@ use Rattle.std.specs.Prelude.{ℕ, ◌+◌, ◌*◌, ◌/◌, Bool, true, false,
 use Rattle.snapshot.specs.Refusals.{form_refusal}
 use Rattle.check_rules.specs.Verdict.{Verdict, refuse, accept}
 use Rattle.printing.specs.Output.{bytes_of}
-use Rattle.wording.specs.Text.{refusal, asked_there, line, first_lines, last_lines}
+use Rattle.printing.specs.wording.Text.{refusal, asked_there, line, first_lines, last_lines}
 
 -- the kinds that are no record's but a question's: 12, 14 and 15
 abbrev pub asks : ℕ → Bool

@@ -5,11 +5,11 @@ mod report;
 mod verdict;
 
 use printing::input::ByteCount;
+use printing::wording::TextBytes;
 use snapshot::ids::WordCount;
 use std::io;
 use std::process::ExitCode;
 use streams::{read_input, say_unread, write_output};
-use wording::text::TextBytes;
 
 /// The status of a run that could not read its input or write its answer.
 const FAILED: u8 = 2;

@@ -3,7 +3,7 @@
 ghost use Rattle.std.specs.Prelude.{◌≡◌, ◌≤◌, length, take, drop};
 ghost use Rattle.snapshot.specs.Limits.{word_limit, area_limit};
 ghost use Rattle.snapshot.specs.Refusals.{refusal_number};
-ghost use Rattle.wording.specs.Text.{text_limit};
+ghost use Rattle.printing.specs.wording.Text.{text_limit};
 ghost use Rattle.std.specs.Counts.{IsPrefixLen};
 ghost use Rattle.printing.specs.Output.{Put};
 ghost use Rattle.check_snapshot.specs.Verdict.{verdict_of};
@@ -11,8 +11,8 @@ ghost use Rattle.check_snapshot.specs.Text.{asks, asks_at, refused_text, text_of
 
 use crate::verdict::verdict;
 use accept::check::Refused;
+use printing::wording::{put_asked, put_counts, put_refusal};
 use snapshot::refusal::Refusal;
-use wording::text::{put_asked, put_counts, put_refusal};
 
 // Whether a kind is a question's, for a path, for a path with its route or for a reach.
 // By numbers: `Kind` has the kinds of records alone, and `QuestionKind` stands in `printer`, on which this crate doesn't stand.

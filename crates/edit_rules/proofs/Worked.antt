@@ -5,7 +5,7 @@ use mathlib.Core.List.{List, [], ◌∷◌, ◌++◌}
 use lib.ListN.{take, drop, replicate}
 use Rattle.snapshot.specs.Lists.{rows, any, all, eq_list}
 use Rattle.snapshot.specs.Words.{arguments_of}
-use Rattle.record_rules.specs.Stands.{number_of}
+use Rattle.check_records.specs.record_rules.Stands.{number_of}
 use Rattle.check_rules.specs.Tests.{text_bound, padded}
 use Rattle.check_rules.specs.Steps.{name_step, crate_step, dependency_step, map_step, module_step, child_step, prelude_step, definition_step, scope_step}
 use Rattle.check_rules.specs.Steps.{import_step, extern_step, member_step}

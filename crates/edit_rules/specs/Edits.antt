@@ -6,7 +6,7 @@ use Rattle.snapshot.specs.Refusals.{area_refusal, words_refusal, entry_refusal, 
 use Rattle.snapshot.specs.Sizes.{scope_size}
 use Rattle.snapshot.specs.Records.{Scope, Snapshot}
 use Rattle.check_rules.specs.Tests.{counts_of, scope_range, scope_defined, ns_placed}
-use Rattle.record_rules.specs.Stands.{number_of}
+use Rattle.check_records.specs.record_rules.Stands.{number_of}
 use Rattle.check_rules.specs.Verdict.{Verdict, refuse, accept, verdict}
 use Rattle.edit_rules.specs.Entries.{scope_words, is_named, higher, lower, placed, with_scopes, without, scopes_end, entry_place, inserted, cut}
 

@@ -1,2 +1,5 @@
-//! Edits of scope entries, and a snapshot written out as words: definitions and rows, no functions.
+//! Edits of scope entries as definitions, and the moves of words by which they are made.
+//! Uses the check; no search.
 #![tactic(auto)]
+
+pub mod scope_edits;

@@ -15,15 +15,15 @@ use Rattle.snapshot.specs.Records.{Snapshot, Scope}
 use Rattle.check_rules.specs.Tests.{same_entry}
 use Rattle.check_rules.specs.Verdict.{Verdict, refuse, accept, verdict}
 use Rattle.accept.proofs.Accepted.{by_test}
-use Rattle.find_path.specs.declared.Query.{Query}
-use Rattle.find_path.specs.declared.Question.{Question}
-use Rattle.find_path.specs.Report.{call_fault, report_unless, report_of}
+use Rattle.find_path_spec.specs.declared.Query.{Query}
+use Rattle.find_path_spec.specs.declared.Question.{Question}
+use Rattle.find_path_spec.specs.Report.{call_fault, report_unless, report_of}
 use Rattle.answer.specs.Answers.{zeros}
 use Rattle.edit_rules.specs.Entries.{higher, placed, with_scopes, scopes_end}
 use Rattle.edit_rules.specs.Edits.{Edit, refused_by, edited, Operation, adding, removing, edit_fault, edited_words, edit_unless, edit_by, edit_within}
 use Rattle.edit_rules.specs.Edits.{edit_of, edited_snapshot}
-use Rattle.scope_edits.proofs.Lists.{any_middle}
-use Rattle.scope_edits.proofs.Edited.{edit_accepted, add_longer, add_room, add_removed}
+use Rattle.edit_rules.proofs.scope_edits.Lists.{any_middle}
+use Rattle.edit_rules.proofs.scope_edits.Edited.{edit_accepted, add_longer, add_room, add_removed}
 use Rattle.edits.specs.Edits.{count_after, words_after}
 use Rattle.edits.specs.Runs.{Held, own_words, after, edit_in, after_run, snapshot_by, snapshot_after}
 use Rattle.edits.proofs.Laws.{fault_none, within_by, of_large}

@@ -24,12 +24,12 @@ use Rattle.answer.specs.Answers.{zeros, area_after}
 use Rattle.edit_rules.specs.Entries.{scope_words, is_named, scopes_end, entry_place, inserted, cut}
 use Rattle.edit_rules.specs.Edits.{Edit, refused_by, edited, Operation, adding, removing, edit_fault, edited_words, edit_unless, edit_by, edit_within}
 use Rattle.edit_rules.specs.Edits.{edit_of}
-use Rattle.scope_edits.proofs.Lists.{cut_length}
-use Rattle.scope_edits.proofs.Removed.{absent, present}
-use Rattle.scope_edits.proofs.Inserted.{end_within}
-use Rattle.scope_edits.proofs.Edited.{add_room, add_small, add_longer}
+use Rattle.edit_rules.proofs.scope_edits.Lists.{cut_length}
+use Rattle.edit_rules.proofs.scope_edits.Removed.{absent, present}
+use Rattle.edit_rules.proofs.scope_edits.Inserted.{end_within}
+use Rattle.edit_rules.proofs.scope_edits.Edited.{add_room, add_small, add_longer}
 use Rattle.edits.specs.Edits.{number_in, count_after, words_after, Edits, EditsIn, Opens}
-use Rattle.counts.specs.Counts.{Counted}
+use Rattle.answer.specs.counts.Counts.{Counted}
 
 -- a refusal
 pub edits_not : (W : List ℕ) (n k : ℕ) (e : Edit) → e ≡ refused_by k → Edits W n e W (record { number = k; count = n })

@@ -6,7 +6,7 @@ use Rattle.snapshot.specs.declared.layout.Layout.{Layout}
 use Rattle.snapshot.specs.declared.refusal.Refusal.{Refusal}
 use Rattle.accept.specs.Post.{Reads}
 use Rattle.answer.specs.Answers.{zeros, area_after}
-use Rattle.counts.specs.Counts.{Counted}
+use Rattle.answer.specs.counts.Counts.{Counted}
 use Rattle.edit_rules.specs.Edits.{Edit, refused_by, edited, Operation, edit_of}
 
 -- the number of the refusal, 0 for none

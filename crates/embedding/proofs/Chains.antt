@@ -13,11 +13,11 @@ use Rattle.accept.specs.Valid.{Valid, ScopeFits}
 use Rattle.accept.proofs.Accepted.{by_test}
 use Rattle.accept.proofs.Bools.{each_at}
 use Rattle.hir_def.specs.Items.{map_of, map_no, crate_of, parent_of, block_of, or_else, containing}
-use Rattle.tree_rules.specs.Visibility.{last_or, last, met_or, met, unless, climb_step, climb, in_module, is_visible_from, sees}
+use Rattle.module_tree.specs.rules.Visibility.{last_or, last, met_or, met, unless, climb_step, climb, in_module, is_visible_from, sees}
 use Rattle.hir_def.specs.Nameres.{steps_or, steps, ancestor_maps, containers}
 use Rattle.hir_def.proofs.Laws.{by_number, Falls, last_more, met_more, steps_more}
 use Rattle.hir_def.proofs.Chains.{map_known, block_falls, containing_falls, climb_falls}
-use Rattle.join_words.specs.Joined.{Numbers, or_none, map_to, visible_to, scope_to}
+use Rattle.join_rules.specs.Joined.{Numbers, or_none, map_to, visible_to, scope_to}
 use Rattle.embedding.specs.Embeds.{Apart, Embeds}
 
 -- numbers that do not become one are compared alike

@@ -17,16 +17,16 @@ use Rattle.hir_def.specs.Nameres.{lang_of}
 use Rattle.hir_def.specs.ImportMap.{is_hidden, is_unstable, import_info_for}
 use Rattle.hir_def.specs.declared.Item.{Item}
 use Rattle.hir_def.specs.declared.Item.TheVariants.{Mod, Def}
-use Rattle.path_choices.specs.Choices.{Choice}
-use Rattle.path_choices.specs.Choices.{via_variant, via_import, step_by, push, length_left}
-use Rattle.find_path.specs.declared.FindPathCtx.{FindPathCtx}
-use Rattle.find_path.specs.Rules.{module_in, sought_of, scope_rule, prelude_rule, first_found, module_rules}
-use Rattle.find_path.specs.Meters.{Charged, Charge, go, stop}
-use Rattle.find_path.specs.Charged.{Out, Search, Inner, is_stable, langs, one_or_none, is_at, variant_of, push_variant, offer_import, find_import}
-use Rattle.find_path.specs.Charged.{find_imports, find_in_dep, find_in_deps, find_in_sysroot, go_on, after_charge, calculate_best_path, or_charged}
-use Rattle.find_path.specs.Charged.{find_path_for_module, after_enum, via_enum, or_enum, by_name, of_module, find_path_inner}
-use Rattle.find_path.specs.Search.{best_local, module_to, search_module, item_to, search_item}
-use Rattle.join_words.specs.Joined.{Numbers, or_none, second_to, first_to}
+use Rattle.find_path_choice.specs.Choices.{Choice}
+use Rattle.find_path_choice.specs.Choices.{via_variant, via_import, step_by, push, length_left}
+use Rattle.find_path_spec.specs.declared.FindPathCtx.{FindPathCtx}
+use Rattle.find_path_spec.specs.Rules.{module_in, sought_of, scope_rule, prelude_rule, first_found, module_rules}
+use Rattle.find_path_spec.specs.Meters.{Charged, Charge, go, stop}
+use Rattle.find_path_spec.specs.Charged.{Out, Search, Inner, is_stable, langs, one_or_none, is_at, variant_of, push_variant, offer_import, find_import}
+use Rattle.find_path_spec.specs.Charged.{find_imports, find_in_dep, find_in_deps, find_in_sysroot, go_on, after_charge, calculate_best_path, or_charged}
+use Rattle.find_path_spec.specs.Charged.{find_path_for_module, after_enum, via_enum, or_enum, by_name, of_module, find_path_inner}
+use Rattle.find_path_spec.specs.Search.{best_local, module_to, search_module, item_to, search_item}
+use Rattle.join_rules.specs.Joined.{Numbers, or_none, second_to, first_to}
 use Rattle.embedding.specs.Embeds as embeds
 use Rattle.embedding.specs.Embeds.{Embeds, ImportAlike, context_to}
 use Rattle.embedding.proofs.Chains.{eqb_moved, none_apart, crate_moved, crate_known}

@@ -14,8 +14,8 @@ use Rattle.hir_def.specs.Finds.{first_of, select}
 use Rattle.hir_def.specs.Items.{crate_data}
 use Rattle.hir_def.specs.Nameres.{is_extern, extern_of, is_dependency, is_sysroot, is_lang_sysroot, lang_of, sysroot_first}
 use Rattle.hir_def.proofs.Fits.{each_back}
-use Rattle.search_laws.proofs.Walks.{select_hit, select_miss}
-use Rattle.join_words.specs.Joined.{Numbers, dependency_to}
+use Rattle.find_path_spec.proofs.laws.Walks.{select_hit, select_miss}
+use Rattle.join_rules.specs.Joined.{Numbers, dependency_to}
 use Rattle.embedding.specs.Embeds.{Within, done, ours, theirs, ExternAlike, Embeds}
 use Rattle.embedding.proofs.Chains.{eqb_moved}
 use Rattle.embedding.proofs.Lookups.{Both, neither, each, Along, end, next, Hit, first_hit, first_miss, first_within, outside_not}

@@ -14,3 +14,4 @@ pub mod Reading
 pub mod Lines
 pub mod Parts
 pub mod Stays
+pub mod joined_lines

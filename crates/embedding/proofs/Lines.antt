@@ -14,16 +14,16 @@ use Rattle.check_rules.specs.Tests.{no_definition}
 use Rattle.accept.specs.Valid.{Valid}
 use Rattle.accept.proofs.Accepted.{by_test}
 use Rattle.hir_def.specs.Items.{macros, macro_kind, definition_of}
-use Rattle.readings.specs.Reads.{reads_back}
-use Rattle.path_choices.specs.Choices.{Choice}
-use Rattle.find_path.specs.declared.Query.{Query}
-use Rattle.find_path.specs.declared.Report.{Report}
-use Rattle.find_path.specs.declared.Tank.{Tank}
-use Rattle.find_path.specs.Rules.{bit}
-use Rattle.find_path.specs.Charged.{Out}
-use Rattle.find_path.specs.Report.{question_fault, refused, flag, misleads, outcome_by, reported, answer_unless}
-use Rattle.find_path.specs.Line.{bytes_of, unpacked, text_of, edition_in, written_of, decimal, joined, prefix_parts, path_text, line_parts, line_in}
-use Rattle.join_words.specs.Joined.{Numbers}
+use Rattle.read_back.specs.readings.Reads.{reads_back}
+use Rattle.find_path_choice.specs.Choices.{Choice}
+use Rattle.find_path_spec.specs.declared.Query.{Query}
+use Rattle.find_path_spec.specs.declared.Report.{Report}
+use Rattle.find_path_spec.specs.declared.Tank.{Tank}
+use Rattle.find_path_spec.specs.Rules.{bit}
+use Rattle.find_path_spec.specs.Charged.{Out}
+use Rattle.find_path_spec.specs.Report.{question_fault, refused, flag, misleads, outcome_by, reported, answer_unless}
+use Rattle.find_path_spec.specs.Line.{bytes_of, unpacked, text_of, edition_in, written_of, decimal, joined, prefix_parts, path_text, line_parts, line_in}
+use Rattle.join_rules.specs.Joined.{Numbers}
 use Rattle.embedding.specs.Embeds.{Embeds, item_to}
 use Rattle.embedding.proofs.Lookups.{Along, end, next, kind_moved, fits}
 use Rattle.embedding.proofs.Choices.{Named, Alike, name_moved}

@@ -11,18 +11,18 @@ use Rattle.snapshot.specs.Records.{Snapshot, Scope}
 use Rattle.accept.specs.Valid.{Valid, Each, none, more}
 use Rattle.accept.proofs.Bools.{each_snoc}
 use Rattle.hir_def.specs.Items.{module_item}
-use Rattle.tree_rules.specs.Visibility.{sees}
+use Rattle.module_tree.specs.rules.Visibility.{sees}
 use Rattle.hir_def.specs.ItemScope.{is_declared}
 use Rattle.hir_def.specs.declared.Item.{Item}
-use Rattle.path_choices.specs.Choices.{Choice}
-use Rattle.path_choices.specs.Choices.{via_local, step_by, nothing, length_left}
-use Rattle.find_path.specs.declared.FindPathCtx.{FindPathCtx}
-use Rattle.find_path.specs.Walk.{Level, visited, find_local_import_locations}
-use Rattle.find_path.specs.Rules.{module_rules}
-use Rattle.find_path.specs.Local.{LocalSearch, offer, offer_entry, is_importable, entry_if, importable_name, location, each_location}
-use Rattle.find_path.specs.Local.{calculate_best_path_local, or_local, find_path_for_module_local}
-use Rattle.find_path.specs.Search.{local_to, search_local, best_local}
-use Rattle.join_words.specs.Joined.{Numbers}
+use Rattle.find_path_choice.specs.Choices.{Choice}
+use Rattle.find_path_choice.specs.Choices.{via_local, step_by, nothing, length_left}
+use Rattle.find_path_spec.specs.declared.FindPathCtx.{FindPathCtx}
+use Rattle.find_path_spec.specs.Walk.{Level, visited, find_local_import_locations}
+use Rattle.find_path_spec.specs.Rules.{module_rules}
+use Rattle.find_path_spec.specs.Local.{LocalSearch, offer, offer_entry, is_importable, entry_if, importable_name, location, each_location}
+use Rattle.find_path_spec.specs.Local.{calculate_best_path_local, or_local, find_path_for_module_local}
+use Rattle.find_path_spec.specs.Search.{local_to, search_local, best_local}
+use Rattle.join_rules.specs.Joined.{Numbers}
 use Rattle.embedding.specs.Embeds.{Embeds, item_to, context_to}
 use Rattle.embedding.proofs.Chains.{eqb_moved, sees_moved}
 use Rattle.embedding.proofs.Lookups.{Both, neither, each, Has, same_moved}

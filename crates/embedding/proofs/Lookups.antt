@@ -18,8 +18,8 @@ use Rattle.hir_def.specs.Items.{types, module_kind, variant_kind, builtin_kind, 
 use Rattle.hir_def.specs.Items.{defined_item}
 use Rattle.hir_def.specs.declared.Item.{Item}
 use Rattle.hir_def.specs.declared.Item.TheVariants.{Mod, Def}
-use Rattle.search_laws.proofs.Walks.{select_hit, select_miss}
-use Rattle.join_words.specs.Joined.{Numbers, or_none, first_to, second_to}
+use Rattle.find_path_spec.proofs.laws.Walks.{select_hit, select_miss}
+use Rattle.join_rules.specs.Joined.{Numbers, or_none, first_to, second_to}
 use Rattle.embedding.specs.Embeds.{Outside, Within, done, ours, theirs, Embeds, item_to}
 use Rattle.embedding.proofs.Chains.{eqb_moved}
 

@@ -19,9 +19,9 @@ use Rattle.hir_def.specs.ItemScope.{counts, name_of, names_of, is_deprecated, is
 use Rattle.hir_def.specs.Nameres.{ancestor_maps, entry_in, scope_entry, entry_named, is_other, occupied}
 use Rattle.hir_def.specs.declared.Item.{Item}
 use Rattle.hir_def.proofs.Chains.{block_falls}
-use Rattle.join_words.specs.Joined.{Numbers}
-use Rattle.join_words.proofs.Lists.{any_has}
-use Rattle.join_words.proofs.Merged.{place_from}
+use Rattle.join_rules.specs.Joined.{Numbers}
+use Rattle.join_rules.proofs.Lists.{any_has}
+use Rattle.join_rules.proofs.Merged.{place_from}
 use Rattle.embedding.specs.Embeds.{ScopeAlike, Embeds, item_to}
 use Rattle.embedding.proofs.Chains.{ancestors_moved, crate_moved, crate_known}
 use Rattle.embedding.proofs.Lookups.{Both, neither, each, Has}

@@ -11,14 +11,14 @@ use Rattle.accept.specs.Valid.{Valid}
 use Rattle.accept.proofs.Bools.{and_two}
 use Rattle.hir_def.specs.Items.{types, builtin_kind, crate_of, crate_data, definition_of, item_of, home_of}
 use Rattle.hir_def.specs.declared.Item.{Item}
-use Rattle.path_choices.specs.Choices.{plain_path, via_builtin, step_by, choice_new}
-use Rattle.find_path.specs.declared.Query.{Query}
-use Rattle.find_path.specs.declared.Tank.{Tank}
-use Rattle.find_path.specs.Rules.{bit, plain_if, module_in, context_of}
-use Rattle.find_path.specs.Meters.{Charge, drained, draw, from_tank, filled}
-use Rattle.find_path.specs.Search.{is_builtin_type, builtin_choice, search_item, from_home, from_item, find_path}
-use Rattle.find_path.specs.Report.{searched}
-use Rattle.join_words.specs.Joined.{Numbers, or_none, first_to, question_to}
+use Rattle.find_path_choice.specs.Choices.{plain_path, via_builtin, step_by, choice_new}
+use Rattle.find_path_spec.specs.declared.Query.{Query}
+use Rattle.find_path_spec.specs.declared.Tank.{Tank}
+use Rattle.find_path_spec.specs.Rules.{bit, plain_if, module_in, context_of}
+use Rattle.find_path_spec.specs.Meters.{Charge, drained, draw, from_tank, filled}
+use Rattle.find_path_spec.specs.Search.{is_builtin_type, builtin_choice, search_item, from_home, from_item, find_path}
+use Rattle.find_path_spec.specs.Report.{searched}
+use Rattle.join_rules.specs.Joined.{Numbers, or_none, first_to, question_to}
 use Rattle.embedding.specs.Embeds.{Embeds, item_to, context_to}
 use Rattle.embedding.proofs.Chains.{map_same, crate_moved, crate_known}
 use Rattle.embedding.proofs.Lookups.{Has, kind_moved, first_moved, fits, item_moved, item_has, home_moved, home_low}

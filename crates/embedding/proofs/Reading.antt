@@ -14,17 +14,17 @@ use Rattle.accept.proofs.Bools.{each_at}
 use Rattle.hir_def.specs.Finds.{first_some}
 use Rattle.hir_def.specs.Items.{types, macros, module_of, map_no, crate_of, parent_of, block_of, crate_root, item_of, same_item, ns_of, module_item}
 use Rattle.hir_def.specs.ItemScope.{get}
-use Rattle.tree_rules.specs.Visibility.{sees}
+use Rattle.module_tree.specs.rules.Visibility.{sees}
 use Rattle.hir_def.specs.Nameres.{prelude_of}
 use Rattle.hir_def.specs.declared.Item.{Item}
 use Rattle.hir_def.specs.declared.Item.TheVariants.{Mod, Def}
 use Rattle.hir_def.proofs.Chains.{map_known}
-use Rattle.readings.specs.Reads.{self_kind, super_kind, crate_kind, absolute_kind, variant_member, outward, scopes_from, stands_for, meaning, entry_or}
-use Rattle.readings.specs.Reads.{is_extern_named, extern_named, extern_means, in_externs, prelude_means, in_prelude_of, entry_from, first_name, is_variant_named}
-use Rattle.readings.specs.Reads.{variant_named, variant_in, later_name, after, looked_in, follow, plainly, absolutely, parent_means, reads_to, is_the}
-use Rattle.readings.specs.Reads.{reads_back}
+use Rattle.read_back.specs.readings.Reads.{self_kind, super_kind, crate_kind, absolute_kind, variant_member, outward, scopes_from, stands_for, meaning, entry_or}
+use Rattle.read_back.specs.readings.Reads.{is_extern_named, extern_named, extern_means, in_externs, prelude_means, in_prelude_of, entry_from, first_name, is_variant_named}
+use Rattle.read_back.specs.readings.Reads.{variant_named, variant_in, later_name, after, looked_in, follow, plainly, absolutely, parent_means, reads_to, is_the}
+use Rattle.read_back.specs.readings.Reads.{reads_back}
 use Rattle.read_back.proofs.Outward.{outward_falls}
-use Rattle.join_words.specs.Joined.{Numbers, or_none, prelude_to, member_to}
+use Rattle.join_rules.specs.Joined.{Numbers, or_none, prelude_to, member_to}
 use Rattle.embedding.specs.Embeds.{ExternAlike, Embeds, item_to}
 use Rattle.embedding.proofs.Chains.{eqb_moved, none_same, steps_moved, last_moved, last_low, map_moved, parent_moved, block_moved, crate_moved}
 use Rattle.embedding.proofs.Chains.{crate_known, sees_moved}

@@ -13,17 +13,17 @@ use Rattle.accept.specs.Valid.{Valid, PreludeFits, ExternFits}
 use Rattle.accept.proofs.Bools.{each_at}
 use Rattle.module_tree.proofs.Roots.{root_known}
 use Rattle.hir_def.specs.Items.{map_no, crate_of, parent_of, module_of, block_of, in_block, root_of, own_map, crate_root, ns_of, module_item}
-use Rattle.tree_rules.specs.Visibility.{sees}
+use Rattle.module_tree.specs.rules.Visibility.{sees}
 use Rattle.hir_def.specs.Nameres.{entry_named, occupied, prelude_of}
 use Rattle.hir_def.specs.declared.Item.{Item}
 use Rattle.hir_def.proofs.Chains.{map_known}
-use Rattle.path_choices.specs.Choices.{Choice}
-use Rattle.path_choices.specs.Choices.{plain_path, self_path, super_path, crate_path, via_scope, via_prelude, via_extern, step_by, choice_new}
-use Rattle.find_path.specs.declared.FindPathCtx.{FindPathCtx}
-use Rattle.find_path.specs.Rules.{by_crate, prefix_path_kind, first_found, single, find_in_scope, may_be_in_scope, scope_rule, same_here, is_usable, prelude_entry}
-use Rattle.find_path.specs.Rules.{in_prelude, find_in_prelude, prelude_rule, extern_kind, extern_name, root_rule, parent_kind, is_kw_kind_relative_to_from}
-use Rattle.find_path.specs.Rules.{keyword_of, module_rules}
-use Rattle.join_words.specs.Joined.{Numbers, or_none, prelude_to}
+use Rattle.find_path_choice.specs.Choices.{Choice}
+use Rattle.find_path_choice.specs.Choices.{plain_path, self_path, super_path, crate_path, via_scope, via_prelude, via_extern, step_by, choice_new}
+use Rattle.find_path_spec.specs.declared.FindPathCtx.{FindPathCtx}
+use Rattle.find_path_spec.specs.Rules.{by_crate, prefix_path_kind, first_found, single, find_in_scope, may_be_in_scope, scope_rule, same_here, is_usable, prelude_entry}
+use Rattle.find_path_spec.specs.Rules.{in_prelude, find_in_prelude, prelude_rule, extern_kind, extern_name, root_rule, parent_kind, is_kw_kind_relative_to_from}
+use Rattle.find_path_spec.specs.Rules.{keyword_of, module_rules}
+use Rattle.join_rules.specs.Joined.{Numbers, or_none, prelude_to}
 use Rattle.embedding.specs.Embeds.{ExternAlike, Embeds, item_to, context_to}
 use Rattle.embedding.proofs.Chains.{eqb_moved, none_same, crates_compared, map_moved, parent_moved, block_moved, crate_known, sees_moved}
 use Rattle.embedding.proofs.Lookups.{Both, neither, each, Along, end, next, Hit, Has, ns_moved}

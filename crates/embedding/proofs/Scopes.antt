@@ -12,7 +12,7 @@ use Rattle.hir_def.specs.ItemScope.{is_for, name_of, names_of, is_named, get, is
 use Rattle.hir_def.specs.Nameres.{children_of, prelude_of, is_dependency, dependencies_of}
 use Rattle.hir_def.specs.ImportMap.{is_import, import_info_for}
 use Rattle.hir_def.specs.declared.Item.{Item}
-use Rattle.join_words.specs.Joined.{Numbers, dependency_to, child_to, prelude_to}
+use Rattle.join_rules.specs.Joined.{Numbers, dependency_to, child_to, prelude_to}
 use Rattle.embedding.specs.Embeds.{Outside, ScopeAlike, ImportAlike, Embeds, item_to}
 use Rattle.embedding.proofs.Chains.{eqb_moved}
 use Rattle.embedding.proofs.Lookups.{Both, Along, Hit, first_within, select_within, outside_not, Has, kind_moved, item_moved, item_has}

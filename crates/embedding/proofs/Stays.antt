@@ -13,13 +13,13 @@ use Rattle.check_rules.specs.Verdict.{accept, verdict}
 use Rattle.accept.proofs.Accepted.{by_test}
 use Rattle.accept.proofs.Bools.{and_two}
 use Rattle.accept.proofs.Valid.{accepted_valid}
-use Rattle.find_path.specs.declared.Query.{Query}
-use Rattle.find_path.specs.declared.Question.{Question}
-use Rattle.find_path.specs.Report.{call_fault, question_fault, refused, answer_unless, report_by, report_unless, report_of}
-use Rattle.find_path.specs.Line.{line_parts, line_in, snapshot_of, line_of}
-use Rattle.join_words.specs.Joined.{Numbers, first_numbers, second_numbers, question_to, joined, joined_as, join_of}
-use Rattle.join_words.proofs.Joins.{join_accepted}
-use Rattle.join_words.proofs.Wholes.{accepted_whole}
+use Rattle.find_path_spec.specs.declared.Query.{Query}
+use Rattle.find_path_spec.specs.declared.Question.{Question}
+use Rattle.find_path_spec.specs.Report.{call_fault, question_fault, refused, answer_unless, report_by, report_unless, report_of}
+use Rattle.find_path_spec.specs.Line.{line_parts, line_in, snapshot_of, line_of}
+use Rattle.join_rules.specs.Joined.{Numbers, first_numbers, second_numbers, question_to, joined, joined_as, join_of}
+use Rattle.join_rules.proofs.Joins.{join_accepted}
+use Rattle.join_rules.proofs.Wholes.{accepted_whole}
 use Rattle.embedding.specs.Embeds.{Embeds}
 use Rattle.embedding.specs.Kept.{Answered, Kept}
 use Rattle.embedding.proofs.Questions.{query_to}

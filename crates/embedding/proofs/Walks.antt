@@ -15,15 +15,15 @@ use Rattle.accept.proofs.Accepted.{by_test}
 use Rattle.accept.proofs.Bools.{and_two, each_snoc}
 use Rattle.hir_def.specs.Finds.{select}
 use Rattle.hir_def.specs.Items.{types, module_kind, definition_of, crate_of, containing}
-use Rattle.tree_rules.specs.Visibility.{sees}
+use Rattle.module_tree.specs.rules.Visibility.{sees}
 use Rattle.hir_def.specs.ItemScope.{is_module_entry, entry_module}
 use Rattle.hir_def.specs.Nameres.{steps_or, steps, containers, children_of}
 use Rattle.hir_def.proofs.Laws.{by_number, Falls, steps_more}
 use Rattle.hir_def.proofs.Chains.{containing_falls}
-use Rattle.find_path.specs.Walk.{has, start_from, leads_to, unmet, walk, find_local_import_locations}
-use Rattle.search_laws.proofs.Walks.{select_hit, select_miss, locations_more}
-use Rattle.search_laws.proofs.Crates.{each_append}
-use Rattle.join_words.specs.Joined.{Numbers, child_to}
+use Rattle.find_path_spec.specs.Walk.{has, start_from, leads_to, unmet, walk, find_local_import_locations}
+use Rattle.find_path_spec.proofs.laws.Walks.{select_hit, select_miss, locations_more}
+use Rattle.find_path_spec.proofs.laws.Crates.{each_append}
+use Rattle.join_rules.specs.Joined.{Numbers, child_to}
 use Rattle.embedding.specs.Embeds.{Embeds}
 use Rattle.embedding.proofs.Chains.{eqb_moved, crates_compared, sees_moved, containers_moved}
 use Rattle.embedding.proofs.Lookups.{Along, end, next, Hit, first_home, fits}

@@ -5,10 +5,10 @@ use Rattle.check_rules.specs.Tests.{no_name}
 use Rattle.hir_def.specs.Items.{definition_of, crate_data, module_of, map_of, root_of, own_map, module_item, defined_item}
 use Rattle.hir_def.specs.declared.Item.{Item}
 use Rattle.hir_def.specs.declared.Item.TheVariants.{Mod, Def}
-use Rattle.find_path.specs.declared.FindPathCtx.{FindPathCtx}
+use Rattle.find_path_spec.specs.declared.FindPathCtx.{FindPathCtx}
 use Rattle.edit_rules.specs.Entries.{moved_scope, moved_import, moved_extern}
-use Rattle.join_words.specs.Joined.{Numbers, or_none, dependency_to, map_to, module_to, child_to, prelude_to, definition_to, scope_to, import_to, extern_to}
-use Rattle.join_words.specs.Joined.{member_to, definition_put}
+use Rattle.join_rules.specs.Joined.{Numbers, or_none, dependency_to, map_to, module_to, child_to, prelude_to, definition_to, scope_to, import_to, extern_to}
+use Rattle.join_rules.specs.Joined.{member_to, definition_put}
 
 -- no number below n goes to k
 abbrev pub Outside : (ℕ → ℕ) → ℕ → ℕ → Type 0

@@ -4,10 +4,10 @@ use Rattle.snapshot.specs.Limits.{area_limit}
 use Rattle.snapshot.specs.Refusals.{unknown_refusal}
 use Rattle.snapshot.specs.Records.{Snapshot}
 use Rattle.check_rules.specs.Verdict.{accept, verdict}
-use Rattle.find_path.specs.declared.Question.{Question}
-use Rattle.find_path.specs.Report.{report_of}
-use Rattle.find_path.specs.Line.{line_of}
-use Rattle.join_words.specs.Joined.{first_numbers, second_numbers, question_to, joined}
+use Rattle.find_path_spec.specs.declared.Question.{Question}
+use Rattle.find_path_spec.specs.Report.{report_of}
+use Rattle.find_path_spec.specs.Line.{line_of}
+use Rattle.join_rules.specs.Joined.{first_numbers, second_numbers, question_to, joined}
 
 -- the question is not refused by 23: it speaks of a definition and a module of the snapshot, or another number refuses it first
 abbrev pub Answered : List ℕ → Question → Type 0

@@ -1,2 +1,3 @@
 pub mod Embeds
 pub mod Kept
+pub mod joined_lines

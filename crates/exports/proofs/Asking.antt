@@ -4,12 +4,12 @@ use mathlib.Core.Path.{◌≡◌, ◌∙◌, ap}
 use mathlib.Core.Bool.{Bool}
 use mathlib.Core.List.{List}
 use lib.ListN.{length}
-use Rattle.find_path.specs.declared.Question.{Question}
-use Rattle.find_path.specs.declared.Report.{Report}
-use Rattle.find_path.specs.Report.{report_of}
+use Rattle.find_path_spec.specs.declared.Question.{Question}
+use Rattle.find_path_spec.specs.declared.Report.{Report}
+use Rattle.find_path_spec.specs.Report.{report_of}
 use Rattle.answer.specs.Answers.{Answers}
 use Rattle.reports.specs.Written.{Written, written_to}
-use Rattle.asked.specs.Asked.{Asked}
+use Rattle.answer.specs.asked.Asked.{Asked}
 use Rattle.exports.specs.Questions.{Reported, ReportedChecked}
 
 pub asked : (W A₀ A : List ℕ) (q p : Question) (r : Report) (old new : List ℕ) (b : Bool) → p ≡ q → Answers W A₀ p A r

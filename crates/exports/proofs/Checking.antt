@@ -19,8 +19,8 @@ use Rattle.accept.specs.Post.{Checked, Checks, check_of}
 use Rattle.accept.specs.declared.check.Refused.{Refused}
 use Rattle.accept.proofs.Accepted.{by_test}
 use Rattle.answer.specs.Answers.{area_after}
-use Rattle.asked.specs.StillChecked.{counted, StillChecked}
-use Rattle.asked.proofs.Numbers.{refusal_positive}
+use Rattle.answer.specs.asked.StillChecked.{counted, StillChecked}
+use Rattle.answer.proofs.asked.Numbers.{refusal_positive}
 use Rattle.exports.specs.Answers.{number_of, answer_of, Answered}
 
 IsRefused : Verdict → Type 0

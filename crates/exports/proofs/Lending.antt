@@ -14,9 +14,9 @@ use denote.Memory.{mem, cell_at, part_of}
 use denote.Steps.{only, owned, peeks}
 use denote.Struct.Steps.{spelt}
 use denote.Struct.Laws as LL
-use Rattle.window_state.specs.declared.rows.Windows.{Windows}
-use Rattle.window_state.specs.contracts.rows.Windows as T
-use Rattle.window_state.proofs.rows.Windows.TheLaws as T'
+use Rattle.windows.specs.declared.state.rows.Windows.{Windows}
+use Rattle.windows.specs.contracts.state.rows.Windows as T
+use Rattle.windows.proofs.state.rows.Windows.TheLaws as T'
 
 -- the machine value of a state
 abbrev pub vals : Windows → List Val

@@ -3,9 +3,9 @@ use Prim.Native.Nat.{ℕ}
 use mathlib.Core.Path.{◌≡◌, sym, ◌∙◌, ap}
 use mathlib.Core.List.{List}
 use lib.ListN.{length}
-use Rattle.reach_parts.specs.declared.Viewer.{Viewer}
-use Rattle.reach_parts.specs.Reach.{Reach, reach_of}
-use Rattle.reach_answer.specs.Reaches.{Reaches}
+use Rattle.reach.specs.declared.parts.Viewer.{Viewer}
+use Rattle.reach.specs.parts.Reach.{Reach, reach_of}
+use Rattle.reach.specs.unchecked.Reaches.{Reaches}
 use Rattle.exports.specs.Reaches.{ReachesIn}
 
 pub reached : (W A₀ A : List ℕ) (v u : Viewer) {r t : Reach} → u ≡ v → Reaches W A₀ u A r → r ≡ t → ReachesIn W A₀ v A t.counts t.number

@@ -9,8 +9,8 @@ use lib.Dec.{eqb}
 use lib.ListN.{length}
 use Rattle.std.specs.Prelude.{Option, Some, None}
 use Rattle.reports.specs.Written.{Written, written_to, report_size}
-use Rattle.find_path.specs.declared.Question.{Question}
-use Rattle.window_rules.specs.States.{place_fault, after_place, served, after_turn}
+use Rattle.find_path_spec.specs.declared.Question.{Question}
+use Rattle.windows.specs.rules.States.{place_fault, after_place, served, after_turn}
 use Rattle.windows.specs.declared.turns.Served.{Served as Shown}
 use Rattle.windows.specs.Windows.{Turn, Placed, told, idle_turn, serving_turn, turn_of, area_turned, Turned}
 use Rattle.exports.specs.Turns.{report_turned, Served, Unserved}

@@ -15,9 +15,9 @@ use Rattle.snapshot.specs.declared.layout.Layout.{Layout}
 use Rattle.snapshot.proofs.Laws.{get_d_rows}
 use Rattle.printing.specs.Output.{Put}
 use Rattle.printing.proofs.Laws.{put_whole}
-use Rattle.path_choices.specs.Choices.{name_data, name_len}
+use Rattle.find_path_choice.specs.Choices.{name_data, name_len}
 use Rattle.keywords.specs.Keywords.{is_raw}
-use Rattle.find_path.specs.Line.{unpacked}
+use Rattle.find_path_spec.specs.Line.{unpacked}
 use Rattle.line.proofs.Laws.{length_unpacked, name_text_lem}
 use Rattle.exports.specs.Texts.{text_from, name_text, Copied, Named, name_raw, RawNamed}
 

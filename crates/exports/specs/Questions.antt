@@ -1,10 +1,10 @@
 -- The report of a question, as words.
 use Rattle.std.specs.Prelude.{ℕ, ◌≡◌, Bool, List, leb, length}
-use Rattle.find_path.specs.declared.Question.{Question}
-use Rattle.find_path.specs.Report.{report_of}
+use Rattle.find_path_spec.specs.declared.Question.{Question}
+use Rattle.find_path_spec.specs.Report.{report_of}
 use Rattle.answer.specs.Answers.{area_after}
 use Rattle.reports.specs.Written.{written_to, report_size}
-use Rattle.asked.specs.Asked.{Stays}
+use Rattle.answer.specs.asked.Asked.{Stays}
 
 -- the report of the question q is written to the words old, where they are enough, of which b tells
 pub record Reported (W A₀ : List ℕ) (q : Question) (A old new : List ℕ) (b : Bool) : Type 0 where

@@ -1,7 +1,7 @@
 -- The reach of a module, with its question and its counts as numbers.
 use Rattle.std.specs.Prelude.{ℕ, ◌≡◌, List, length, get_or}
-use Rattle.reach_parts.specs.declared.Viewer.{Viewer}
-use Rattle.reach_parts.specs.Reach.{reach_of}
+use Rattle.reach.specs.declared.parts.Viewer.{Viewer}
+use Rattle.reach.specs.parts.Reach.{reach_of}
 use Rattle.answer.specs.Answers.{area_after}
 
 -- viewing module, prefix, options, fuel and limit

@@ -6,8 +6,8 @@ use Rattle.snapshot.specs.Layouts.{name_head, snap_of}
 use Rattle.snapshot.specs.declared.layout.Layout.{Layout}
 use Rattle.keywords.specs.Keywords.{is_raw}
 use Rattle.accept.specs.Post.{Reads}
-use Rattle.path_choices.specs.Choices.{name_data}
-use Rattle.find_path.specs.Line.{unpacked, text_of}
+use Rattle.find_path_choice.specs.Choices.{name_data}
+use Rattle.find_path_spec.specs.Line.{unpacked, text_of}
 
 -- the bytes of the name with its head at a place, as far as the words go
 abbrev pub text_from : List ℕ → ℕ → List ℕ

@@ -1,8 +1,8 @@
 -- A turn of the windows, with its report as words.
 use Rattle.std.specs.Prelude.{ℕ, ◌≡◌, true, false, List, eqb, length}
-use Rattle.find_path.specs.Report.{report_of}
+use Rattle.find_path_spec.specs.Report.{report_of}
 use Rattle.reports.specs.Written.{written_to}
-use Rattle.window_rules.specs.States.{asked_by, served, after_turn}
+use Rattle.windows.specs.rules.States.{asked_by, served, after_turn}
 use Rattle.windows.specs.Windows.{area_turned}
 
 -- the report of the question served is written to the words old; an idle turn leaves them

@@ -1,10 +1,10 @@
 //! A state of the windows by value, lent for one operation.
-ghost use Rattle.window_state.specs.Words.{words_of};
+ghost use Rattle.windows.specs.state.Words.{words_of};
 ghost use Rattle.windows.specs.Windows.{Turned, told};
 
-use window_state::rows::Windows;
+use windows::state::rows::Windows;
+use windows::turn;
 use windows::turns::Turning;
-use windows::windows::turn;
 
 /// The state after a turn, and what it served.
 pub fn turn_in(windows: Windows, words: &[u32], area: &mut [u32]) -> Turning

@@ -1,6 +1,6 @@
 //! How much of a name's text its words hold.
 ghost use Rattle.std.specs.Prelude.{◌≡◌, ◌^◌, ◌<◌, length, take};
-ghost use Rattle.find_path.specs.Line.{unpacked};
+ghost use Rattle.find_path_spec.specs.Line.{unpacked};
 
 use snapshot::kind::text_words;
 

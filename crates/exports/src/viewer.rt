@@ -2,9 +2,9 @@
 ghost use Rattle.std.specs.Prelude.{◌≡◌};
 ghost use Rattle.exports.specs.Reaches.{viewer_of};
 
-use reach_parts::Viewer;
+use reach::parts::Viewer;
 use snapshot::ids::ModuleId;
-use snapshot::words::word;
+use snapshot::reading::word;
 
 /// Viewing module, prefix, options, fuel and limit.
 pub(crate) fn viewer_of(words: &[u32]) -> Viewer

@@ -1,2 +1,2 @@
-pub mod Answers
-pub mod Worked
+pub mod Items
+pub mod Starts

@@ -1,9 +1,3 @@
-pub mod Walk
-pub mod Rules
-pub mod Local
-pub mod Charged
-pub mod Search
-pub mod Conditions
-pub mod Meters
-pub mod Report
-pub mod Line
+pub mod Parts
+pub mod search_parts
+pub mod charged_search

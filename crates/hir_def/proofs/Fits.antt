@@ -13,7 +13,7 @@ use Rattle.snapshot.specs.Records.{Scope, Import, Dependency, scope_at, import_a
 use Rattle.snapshot.specs.Layouts.{word_count, definition_base, scope_base, import_base, dependency_base, snap_of}
 use Rattle.snapshot.specs.declared.layout.Layout.{Layout}
 use Rattle.snapshot.proofs.Laws.{length_rows}
-use Rattle.record_rules.specs.Stands.{counts_in}
+use Rattle.check_records.specs.record_rules.Stands.{counts_in}
 use Rattle.accept.specs.Post.{Reads}
 use Rattle.accept.specs.Valid.{Each, more, ScopeFits, ImportFits, DependencyFits, PreludeFits, ExternFits, DefinitionFits, Ranges, Valid}
 use Rattle.accept.proofs.Accepted.{by_test}

@@ -1,7 +1,7 @@
 -- Finding in lists.
 use Rattle.std.specs.Prelude.{ℕ, ◌+◌, List, [], ◌∷◌, Bool, true, false}
 use Rattle.std.specs.Prelude.{Option, None, Some}
-unfoldable pub use Rattle.tree_rules.specs.Modules.{place_of}
+unfoldable pub use Rattle.module_tree.specs.rules.Modules.{place_of}
 
 -- the first element that passes the test
 unfoldable pub first_of : {A : Type 0} → (A → Bool) → List A → Option A

@@ -3,8 +3,8 @@ use Rattle.std.specs.Prelude.{ℕ, ◌+◌, Bool, true, false, ◌&&◌, not, eq
 use Rattle.snapshot.specs.Records.{Snapshot, Crate, Definition}
 use Rattle.hir_def.specs.declared.Item.{Item}
 use Rattle.hir_def.specs.declared.Item.TheVariants.{Mod, Def}
-pub use Rattle.tree_rules.specs.Modules.{map_no, crate_of, parent_of, block_of, in_block}
-unfoldable pub use Rattle.tree_rules.specs.Modules.{module_of, map_of, root_of, own_map, crate_root, or_else, containing}
+pub use Rattle.module_tree.specs.rules.Modules.{map_no, crate_of, parent_of, block_of, in_block}
+unfoldable pub use Rattle.module_tree.specs.rules.Modules.{module_of, map_of, root_of, own_map, crate_root, or_else, containing}
 
 -- namespaces, with values between them
 

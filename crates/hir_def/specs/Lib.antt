@@ -6,3 +6,5 @@ pub mod ImportMap
 pub mod Entries
 pub mod Tests
 pub mod Spans
+pub mod item_scope
+pub mod crate_graph

@@ -1,13 +1,16 @@
-//! What the lookups over an accepted snapshot answer.
+//! What the lookups over an accepted snapshot answer, in files that are called as the Rust's: item_scope, nameres, import_map, and the crate graph.
+//! Uses the check and `module_tree`; no rule of the search.
 #![tactic(auto)]
 
 ghost use Rattle.std.specs.Prelude.{◌+◌, ◌*◌, ◌^◌, ◌<◌};
 
+pub mod crate_graph;
 pub mod finds;
+pub mod import_map;
+pub mod item_scope;
 pub mod items;
-pub mod modules;
+pub mod nameres;
 pub mod spans;
-pub mod visibility;
 
 use accept::opened::Snapshot;
 use snapshot::ids::{DefinitionId, ModuleId, Namespace};

@@ -8,8 +8,8 @@ use crate::{Part, Span};
 use accept::opened::Snapshot;
 use snapshot::ids::Crate;
 use snapshot::kind::Size;
+use snapshot::reading::word;
 use snapshot::records::Records;
-use snapshot::words::word;
 
 // One for each kind: what differs is the accessor of its base, its size and the field of its number, so one over `Kind` would match on it
 // three times, with a case for kinds that are not searched.

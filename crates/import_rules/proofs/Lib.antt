@@ -1,3 +1,4 @@
 -- Rows that are computed.
 pub mod Worked
 pub mod Listed
+pub mod import_words

@@ -16,8 +16,8 @@ use Rattle.check_rules.specs.Verdict.{Verdict, refuse, accept, arguments_from, r
 use Rattle.check_rules.specs.Worked.{worked}
 use Rattle.hir_def.specs.Finds.{place_of, select}
 use Rattle.hir_def.specs.Items.{definition_of, root_of, own_map}
-use Rattle.path_choices.specs.Choices.{name_data}
-use Rattle.find_path.specs.Line.{bytes_of, unpacked, text_of}
+use Rattle.find_path_choice.specs.Choices.{name_data}
+use Rattle.find_path_spec.specs.Line.{bytes_of, unpacked, text_of}
 use Rattle.import_rules.specs.Collect.{text_before, entry_before, insert_by, sort_into, entries_of, piled, visits, modules_from, member_ns, imports_of}
 use Rattle.import_rules.specs.Collect.{imports_in, imports_over, collected, words_of}
 

@@ -4,7 +4,7 @@ use Rattle.snapshot.specs.Lists.{any}
 use Rattle.snapshot.specs.Records.{Snapshot, Scope, Import, Member}
 use Rattle.hir_def.specs.Finds.{select}
 use Rattle.hir_def.specs.Items.{types, module_kind, definition_of, root_of, own_map}
-use Rattle.find_path.specs.Line.{text_of}
+use Rattle.find_path_spec.specs.Line.{text_of}
 
 -- `Name`'s order: byte by byte; a text stands before one that goes on
 unfoldable pub text_before : List ℕ → List ℕ → Bool

@@ -1,2 +1,3 @@
 pub mod Collect
 pub mod Listings
+pub mod import_words

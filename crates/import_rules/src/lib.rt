@@ -1,2 +1,3 @@
-//! What `collect_import_map` of import_map.rs adds for a crate, in its order: definitions and rows, no functions.
+//! A crate's import list as definitions, and a snapshot's words with the list put in: definitions and theorems, no functions.
+//! Uses the definitions of the search and of edits.
 #![tactic(auto)]

@@ -19,16 +19,16 @@ use Rattle.accept.proofs.Stable.{snap_stays}
 use Rattle.answer.specs.Answers.{zeros}
 use Rattle.answer.proofs.Areas.{area_small, area_large}
 use Rattle.import_rules.specs.Collect.{modules_from, imports_over, collected, words_of}
-use Rattle.import_order.specs.Rooms.{entries_room}
-use Rattle.import_order.specs.Lists.{Ready}
-use Rattle.import_words.proofs.Taken.{words_length}
-use Rattle.import_lists.specs.Threads.{Threaded}
-use Rattle.import_lists.specs.Walks.{order_base, order_at, Walked}
-use Rattle.import_lists.specs.Writes.{written}
-use Rattle.import_lists.proofs.Walks.{threaded_kept}
-use Rattle.import_lists.proofs.Writing.{over_small}
+use Rattle.imports.specs.order.Rooms.{entries_room}
+use Rattle.imports.specs.order.Lists.{Ready}
+use Rattle.import_rules.proofs.import_words.Taken.{words_length}
+use Rattle.imports.specs.lists.Threads.{Threaded}
+use Rattle.imports.specs.lists.Walks.{order_base, order_at, Walked}
+use Rattle.imports.specs.lists.Writes.{written}
+use Rattle.imports.proofs.lists.Walks.{threaded_kept}
+use Rattle.imports.proofs.lists.Writing.{over_small}
 use Rattle.imports.specs.Listings.{Listing, refused_by, listed, list_in, list_by, list_of, number_in, words_in, Lists, ListsIn}
-use Rattle.counts.specs.Counts.{Counted}
+use Rattle.answer.specs.counts.Counts.{Counted}
 
 -- a refusal
 pub lists_not : {T : List ℕ} {e : Listing} (k : ℕ) → e ≡ refused_by k → Lists T e T (record { number = k; count = 0 })

@@ -1,7 +1,7 @@
 -- What a list of imports promises; what it comes to is passed on to the crates above.
 use Rattle.std.specs.Prelude.{ℕ, ◌≡◌, List, ◌++◌, length, drop}
 use Rattle.answer.specs.Answers.{area_after}
-use Rattle.counts.specs.Counts.{Counted}
+use Rattle.answer.specs.counts.Counts.{Counted}
 pub use Rattle.import_rules.specs.Listings.{Listing, refused_by, listed}
 unfoldable pub use Rattle.import_rules.specs.Listings.{list_in, list_by, list_of, number_in, words_in}
 

@@ -18,22 +18,22 @@ use Rattle.accept.specs.Post.{Reads}
 use Rattle.accept.proofs.Bools.{and_two}
 use Rattle.accept.proofs.Valid.{accepted_valid}
 use Rattle.hir_def.specs.Finds.{select}
-use Rattle.search_laws.proofs.Walks.{select_short}
+use Rattle.find_path_spec.proofs.laws.Walks.{select_short}
 use Rattle.answer.specs.Answers.{zeros}
 use Rattle.answer.proofs.Areas.{area_small, area_large}
-use Rattle.join_words.specs.Joined.{is_new, merged, same_builtin, second_numbers, module_to, definition_to, together, joined_words, is_within, Joining}
-use Rattle.join_words.specs.Joined.{refused_by, joined_as, join_in, join_by, join_of}
-use Rattle.join_words.proofs.Joins.{joined_accepted}
-use Rattle.join_words.proofs.Merged.{map_length}
-use Rattle.join_numbers.specs.Parts.{part_of, Part, Ready}
-use Rattle.join_numbers.specs.Numbered.{Numbered}
-use Rattle.join_numbers.specs.declared.tables.New.{New}
-use Rattle.join_numbers.proofs.Parts.{part_of_lem, read_is}
-use Rattle.join_records.specs.Moves.{words_to}
-use Rattle.join_records.specs.Writes.{written, Space, Wrote, Whole}
-use Rattle.join_records.proofs.Laws.{words_few}
+use Rattle.join_rules.specs.Joined.{is_new, merged, same_builtin, second_numbers, module_to, definition_to, together, joined_words, is_within, Joining}
+use Rattle.join_rules.specs.Joined.{refused_by, joined_as, join_in, join_by, join_of}
+use Rattle.join_rules.proofs.Joins.{joined_accepted}
+use Rattle.join_rules.proofs.Merged.{map_length}
+use Rattle.join.specs.numbers.Parts.{part_of, Part, Ready}
+use Rattle.join.specs.numbers.Numbered.{Numbered}
+use Rattle.join.specs.declared.numbers.tables.New.{New}
+use Rattle.join.proofs.numbers.Parts.{part_of_lem, read_is}
+use Rattle.join.specs.records.Moves.{words_to}
+use Rattle.join.specs.records.Writes.{written, Space, Wrote, Whole}
+use Rattle.join.proofs.records.Laws.{words_few}
 use Rattle.join.specs.Joins.{number_in, words_in, Joins, JoinsIn, fits_in}
-use Rattle.counts.specs.Counts.{Counted}
+use Rattle.answer.specs.counts.Counts.{Counted}
 use Rattle.join.proofs.Low.{accepted_low}
 use Rattle.join.proofs.Words.{words_same}
 

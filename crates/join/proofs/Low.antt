@@ -12,9 +12,9 @@ use Rattle.snapshot.specs.Records.{Snapshot}
 use Rattle.check_rules.specs.Verdict.{accept, arguments_from, records, empty, verdict}
 use Rattle.accept.proofs.Accepted.{by_test}
 use Rattle.accept.proofs.Bools.{and_three}
-use Rattle.scope_edits.proofs.Stepped.{taking, follows_parts}
-use Rattle.scope_edits.proofs.Folded.{next_record}
-use Rattle.scope_edits.proofs.Split.{verdict_records}
+use Rattle.edit_rules.proofs.scope_edits.Stepped.{taking, follows_parts}
+use Rattle.edit_rules.proofs.scope_edits.Folded.{next_record}
+use Rattle.edit_rules.proofs.scope_edits.Split.{verdict_records}
 
 abbrev Low : List ℕ → ℕ → Type 0
 Low W n = (i : ℕ) → i < n → i < length W → get_or W i 0 < 2 ^ 32

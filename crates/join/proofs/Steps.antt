@@ -17,16 +17,16 @@ use Rattle.accept.proofs.Accepted.{by_test}
 use Rattle.edit_rules.specs.Entries.{scope_words}
 use Rattle.edit_rules.specs.Written.{head_of, name_words, crate_words, dependency_words, child_words, prelude_words, definition_words, import_words}
 use Rattle.edit_rules.specs.Written.{extern_words, member_words}
-use Rattle.join_words.specs.Joined.{is_new, name_number, same_builtin, definition_number, Numbers, second_numbers, dependency_to, child_to, prelude_to}
-use Rattle.join_words.specs.Joined.{definition_to, first_to, second_to, visible_to, scope_to, import_to, extern_to, member_to}
-use Rattle.join_words.proofs.Runs.{At, kind_is, Small}
-use Rattle.join_numbers.specs.Parts.{Counted}
-use Rattle.join_numbers.specs.Numbered.{name_table, definition_table, NumbersIn}
-use Rattle.join_numbers.proofs.News.{name_test, definition_test}
-use Rattle.join_records.specs.Moves.{numbers_of, role_of, field_to, moved_at, kept_at, kept_words}
-use Rattle.join_records.proofs.Laws.{kept_name, kept_definition}
-use Rattle.join_records.proofs.Passes.{fields_to, record_to, arguments_is, record_moved, Step}
-use Rattle.join_records.proofs.Trees.{kept_plain}
+use Rattle.join_rules.specs.Joined.{is_new, name_number, same_builtin, definition_number, Numbers, second_numbers, dependency_to, child_to, prelude_to}
+use Rattle.join_rules.specs.Joined.{definition_to, first_to, second_to, visible_to, scope_to, import_to, extern_to, member_to}
+use Rattle.join_rules.proofs.Runs.{At, kind_is, Small}
+use Rattle.join.specs.numbers.Parts.{Counted}
+use Rattle.join.specs.numbers.Numbered.{name_table, definition_table, NumbersIn}
+use Rattle.join.proofs.numbers.News.{name_test, definition_test}
+use Rattle.join.specs.records.Moves.{numbers_of, role_of, field_to, moved_at, kept_at, kept_words}
+use Rattle.join.proofs.records.Laws.{kept_name, kept_definition}
+use Rattle.join.proofs.records.Passes.{fields_to, record_to, arguments_is, record_moved, Step}
+use Rattle.join.proofs.records.Trees.{kept_plain}
 
 -- the numbers of the second but for names and definitions, which are read from the tables
 abbrev pub partly : Snapshot → List ℕ → Numbers

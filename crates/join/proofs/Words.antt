@@ -19,18 +19,18 @@ use Rattle.hir_def.specs.Finds.{select}
 use Rattle.edit_rules.specs.Entries.{scope_words}
 use Rattle.edit_rules.specs.Written.{name_words, crate_words, dependency_words, child_words, prelude_words, definition_words, import_words, extern_words}
 use Rattle.edit_rules.specs.Written.{member_words, each_words, tree_words, joined, snapshot_words}
-use Rattle.join_words.specs.Joined.{is_new, merged, same_builtin, Numbers, second_numbers, dependency_to, map_to, module_to, child_to, prelude_to}
-use Rattle.join_words.specs.Joined.{definition_to, scope_to, import_to, extern_to, member_to, together, joined_words}
-use Rattle.join_words.proofs.Merged.{each_mapped}
-use Rattle.join_words.proofs.Runs.{At, words_append}
-use Rattle.join_words.proofs.Stages.{Whole}
-use Rattle.join_words.proofs.Wholes.{accepted_whole}
-use Rattle.join_numbers.specs.Parts.{part_of, Part}
-use Rattle.join_numbers.specs.Numbered.{NumbersIn}
-use Rattle.join_numbers.proofs.Parts.{Kinds, part_kinds}
-use Rattle.join_records.specs.Moves.{moved_run, run_of, base_of, kind_to, words_to}
-use Rattle.join_records.proofs.Passes.{run_is, passes_to, passes_done, Step, each_passes, select_all, each_of_map}
-use Rattle.join_records.proofs.Trees.{tree_both, tree_passes}
+use Rattle.join_rules.specs.Joined.{is_new, merged, same_builtin, Numbers, second_numbers, dependency_to, map_to, module_to, child_to, prelude_to}
+use Rattle.join_rules.specs.Joined.{definition_to, scope_to, import_to, extern_to, member_to, together, joined_words}
+use Rattle.join_rules.proofs.Merged.{each_mapped}
+use Rattle.join_rules.proofs.Runs.{At, words_append}
+use Rattle.join_rules.proofs.Stages.{Whole}
+use Rattle.join_rules.proofs.Wholes.{accepted_whole}
+use Rattle.join.specs.numbers.Parts.{part_of, Part}
+use Rattle.join.specs.numbers.Numbered.{NumbersIn}
+use Rattle.join.proofs.numbers.Parts.{Kinds, part_kinds}
+use Rattle.join.specs.records.Moves.{moved_run, run_of, base_of, kind_to, words_to}
+use Rattle.join.proofs.records.Passes.{run_is, passes_to, passes_done, Step, each_passes, select_all, each_of_map}
+use Rattle.join.proofs.records.Trees.{tree_both, tree_passes}
 use Rattle.join.proofs.Steps.{partly_same, name_step_lem, crate_step_lem, dependency_step_lem, child_step_lem, prelude_step_lem, definition_step_lem, scope_step_lem}
 use Rattle.join.proofs.Steps.{import_step_lem, extern_step_lem, member_step_lem}
 

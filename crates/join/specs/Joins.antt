@@ -2,8 +2,8 @@
 use Rattle.std.specs.Prelude.{ℕ, ◌≡◌, List, [], ◌++◌, Bool, ◌&&◌, leb, length, drop}
 use Rattle.snapshot.specs.Limits.{word_limit, crate_limit, module_limit, name_limit, definition_limit}
 use Rattle.answer.specs.Answers.{area_after}
-use Rattle.counts.specs.Counts.{Counted}
-use Rattle.join_words.specs.Joined.{Joining, refused_by, joined_as, join_of}
+use Rattle.answer.specs.counts.Counts.{Counted}
+use Rattle.join_rules.specs.Joined.{Joining, refused_by, joined_as, join_of}
 
 -- the number of the refusal, 0 for none
 unfoldable pub number_in : Joining → ℕ

@@ -1,1 +1,4 @@
 pub mod Joins
+pub mod numbers
+pub mod records
+pub mod new_numbers

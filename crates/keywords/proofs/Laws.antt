@@ -10,7 +10,7 @@ use borrow.Author.Tests.{ltb-true, ltb-false, lt-ltb, le-ltb, le-leb, lt-leb, le
 use Rattle.snapshot.specs.Lists.{rows, any, all}
 use Rattle.snapshot.specs.Records.{Name}
 use Rattle.check_rules.specs.Tests.{same_name}
-use Rattle.record_rules.proofs.Judged.{and_left, and_right}
+use Rattle.check_records.proofs.record_rules.Judged.{and_left, and_right}
 use Rattle.keywords.specs.Keywords.{Keyword, keywords, is_keyword, is_raw, plain_words}
 use Rattle.keywords.specs.Editions.{keywords_in}
 

@@ -1,4 +1,5 @@
 //! Which names an edition writes with `r#`.
+//! Uses the check of names and `printing`.
 #![tactic(auto)]
 
 ghost use Rattle.std.specs.Prelude.{◌≡◌, ◌≤◌};
@@ -8,7 +9,7 @@ ghost use Rattle.check_rules.specs.Tests.{same_name};
 ghost use Rattle.keywords.specs.Keywords.{is_keyword, plain_words, is_raw};
 ghost use Rattle.keywords.specs.Editions.{keywords_in};
 
-use record_rules::names::known;
+use check_records::record_rules::names::known;
 
 // The keywords as name records, in the order of the definition, and the places of their heads.
 // Words and no strings: `known` compares them with a name's words as a snapshot has them, and a string would be packed into such words at each test.

@@ -21,12 +21,12 @@ use Rattle.accept.proofs.Accepted.{by_test}
 use Rattle.printing.specs.Output as P
 use Rattle.printing.proofs.Laws.{decimal_last, decimal_more as P-more}
 use Rattle.hir_def.specs.Items.{crate_of, crate_data}
-use Rattle.find_path.specs.declared.Report.{Report}
-use Rattle.path_choices.specs.Choices.{name_data, name_len}
-use Rattle.find_path.specs.Report.{refused}
-use Rattle.find_path.specs.Line.{bytes_of, unpacked, text_of, edition_in, written_of, decimal_to, decimal, joined, prefix_parts, path_text, line_parts}
-use Rattle.find_path.specs.Line.{line_in}
-use Rattle.search_laws.proofs.Lines.{decimal_digit, decimal_more}
+use Rattle.find_path_spec.specs.declared.Report.{Report}
+use Rattle.find_path_choice.specs.Choices.{name_data, name_len}
+use Rattle.find_path_spec.specs.Report.{refused}
+use Rattle.find_path_spec.specs.Line.{bytes_of, unpacked, text_of, edition_in, written_of, decimal_to, decimal, joined, prefix_parts, path_text, line_parts}
+use Rattle.find_path_spec.specs.Line.{line_in}
+use Rattle.find_path_spec.proofs.laws.Lines.{decimal_digit, decimal_more}
 use Rattle.line.specs.Joints.{joint_if}
 
 -- texts in words, three bytes a word

@@ -1,11 +1,11 @@
 //! The edition in which a path is written.
 ghost use Rattle.std.specs.Prelude.{◌≡◌};
 ghost use Rattle.accept.specs.Opened.{snap_in};
-ghost use Rattle.find_path.specs.Line.{edition_in};
+ghost use Rattle.find_path_spec.specs.Line.{edition_in};
 
 use accept::opened::Snapshot;
 use hir_def::items::edition_of;
-use hir_def::modules::krate;
+use module_tree::modules::krate;
 use snapshot::ids::ModuleId;
 
 /// The edition of a module's crate, 0 where there is no such module.

@@ -3,7 +3,7 @@
 ghost use Rattle.std.specs.Prelude.{map, ◌++◌, ◌+◌, ◌≤◌, ◌<◌, length};
 ghost use Rattle.accept.specs.Opened.{snap_in};
 ghost use Rattle.printing.specs.Output.{Put};
-ghost use Rattle.find_path.specs.Line.{bytes_of, written_of, joined, prefix_parts};
+ghost use Rattle.find_path_spec.specs.Line.{bytes_of, written_of, joined, prefix_parts};
 ghost use Rattle.line.specs.Joints.{joint_if};
 
 use crate::text::put_name;

@@ -3,16 +3,16 @@
 ghost use Rattle.std.specs.Prelude.{◌≡◌, ◌+◌, ◌*◌, ◌≤◌, ◌<◌, length, take, get_or};
 ghost use Rattle.accept.specs.Opened.{snap_in};
 ghost use Rattle.printing.specs.Output.{Put};
-ghost use Rattle.find_path.specs.Line.{unpacked, written_of, decimal};
+ghost use Rattle.find_path_spec.specs.Line.{unpacked, written_of, decimal};
 
 use accept::opened::Snapshot;
+use find_path_choice::choices::name_len;
 use keywords::is_raw;
-use path_rules::choices::name_len;
 use printing::output::{Digits, put, put_digits};
 use snapshot::ids::Name;
+use snapshot::reading::word;
 use snapshot::table::name_head;
 use snapshot::text::text_of;
-use snapshot::words::word;
 
 fn narrow(x: usize) -> u8
     requires { x < 256 }

@@ -4,13 +4,13 @@ ghost use Rattle.std.specs.Prelude.{◌≡◌, ◌<◌, ◌≤◌, IfOk};
 use crate::answer::{Answer, OutOfRange};
 use crate::query::{Kind, Query};
 use accept::opened::Snapshot;
-use crate_graph::extern_of;
 use hir_def::Item;
+use hir_def::crate_graph::extern_of;
+use hir_def::item_scope::{entry_in, name_of};
 use hir_def::items::{home_of, item_of};
-use hir_def::modules::{containing_module, crate_root};
-use hir_def::visibility::is_visible_from;
-use item_scope::{entry_in, name_of};
-use nameres::{entry_named, occupied, scope_entry};
+use hir_def::nameres::{entry_named, occupied, scope_entry};
+use module_tree::modules::{containing_module, crate_root};
+use module_tree::visibility::is_visible_from;
 use snapshot::ids::{Crate, DefinitionId, ModuleId, Name, Visibility};
 use snapshot::record::{extern_name, scope_definition, scope_name};
 

@@ -4,11 +4,11 @@ use crate::asked::Asked;
 use crate::query::Query;
 use accept::check::{Refused, check};
 use accept::opened::Snapshot;
-use case_text::text::split_once;
-use case_text::words::words_of;
 use snapshot::ids::WordCount;
 use snapshot::records::Records;
 use std::io;
+use streams::case_text::text::split_once;
+use streams::case_text::words::words_of;
 
 fn run_queries(rt: &impl Print, asked: &Asked, queries: &[u32]) -> io::Result<()> {
     let (queries, _) = queries.as_chunks::<5>();

@@ -7,8 +7,8 @@ use mathlib.Core.Bool.{Bool, true, false}
 use lib.ListN.{length}
 use Rattle.snapshot.specs.Records.{Snapshot}
 use Rattle.accept.specs.Valid.{map_in, Tree}
-use Rattle.tree_rules.specs.Modules.{module_of, map_of, map_no, crate_of, parent_of, block_of, or_else, containing}
-use Rattle.tree_rules.specs.Visibility.{unless, climb_step}
+use Rattle.module_tree.specs.rules.Modules.{module_of, map_of, map_no, crate_of, parent_of, block_of, or_else, containing}
+use Rattle.module_tree.specs.rules.Visibility.{unless, climb_step}
 use Rattle.module_tree.proofs.Laws.{Falls}
 
 or_falls : (v w p b : ℕ) → or_else p b ≡ suc w → (p ≡ suc w → w < v) → (b ≡ suc w → w < v) → w < v

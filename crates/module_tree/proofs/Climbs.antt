@@ -8,10 +8,10 @@ use lib.ListN.{length}
 use lib.Dec.{eqb}
 use borrow.Author.Tests.{eq-eqb, ne_eqb}
 use Rattle.snapshot.specs.Records.{Snapshot}
-use Rattle.tree_rules.specs.Modules.{map_no, crate_of, block_of, containing}
+use Rattle.module_tree.specs.rules.Modules.{map_no, crate_of, block_of, containing}
 use Rattle.snapshot.specs.Ids.{plus_one}
 use Rattle.snapshot.specs.declared.ids.ModuleId.{ModuleId}
-use Rattle.tree_rules.specs.Visibility.{last_or, met_or, met, unless, climb_step, climb, in_module, is_visible_from}
+use Rattle.module_tree.specs.rules.Visibility.{last_or, met_or, met, unless, climb_step, climb, in_module, is_visible_from}
 use Rattle.module_tree.proofs.Laws.{Falls, last_more, met_more}
 
 pub one_more_lem : (b : ℕ) → (b ≡ 0 → ⊥) → b ≡ suc (b - 1)

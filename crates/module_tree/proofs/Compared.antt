@@ -10,8 +10,8 @@ use borrow.Author.Tests.{eqb-true, eqb-false, eq-eqb, ne_eqb}
 use Rattle.snapshot.specs.Records.{Snapshot}
 use Rattle.accept.specs.Valid.{Tree}
 use Rattle.accept.proofs.Accepted.{by_test}
-use Rattle.tree_rules.specs.Modules.{map_of, map_no, parent_of, block_of, crate_of, or_else, containing}
-use Rattle.tree_rules.specs.Visibility.{met, unless, climb_step, climb, in_module}
+use Rattle.module_tree.specs.rules.Modules.{map_of, map_no, parent_of, block_of, crate_of, or_else, containing}
+use Rattle.module_tree.specs.rules.Visibility.{met, unless, climb_step, climb, in_module}
 use Rattle.module_tree.specs.Privacy.{StandsIn, inner, outermost, block, Descends, itself, child, Visible}
 use Rattle.module_tree.specs.Differs.{now, on, Within, Leaves, here, later, Differs}
 use Rattle.module_tree.proofs.Laws.{by_number, Falls}

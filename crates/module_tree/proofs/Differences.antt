@@ -2,12 +2,12 @@
 use mathlib.Core.Path.{◌≡◌, refl}
 use mathlib.Core.Bool.{true}
 use lib.Dec.{lit<}
-use Rattle.tree_rules.specs.Modules.{module_of, map_of, or_else, containing}
-use Rattle.tree_rules.specs.Visibility.{last_or, last_to, last, met_or, met_to, met, unless, climb_step, climb, in_module, is_visible_from}
+use Rattle.module_tree.specs.rules.Modules.{module_of, map_of, or_else, containing}
+use Rattle.module_tree.specs.rules.Visibility.{last_or, last_to, last, met_or, met_to, met, unless, climb_step, climb, in_module, is_visible_from}
 use Rattle.module_tree.specs.Privacy.{Privacy}
 use Rattle.module_tree.specs.Differs.{Differs}
-use Rattle.tree_rules.specs.Privately.{of_root, block_step, module_around, privately}
-use Rattle.tree_rules.specs.Examples.{smallest, smallest_snapshot, smallest_accepted}
+use Rattle.module_tree.specs.rules.Privately.{of_root, block_step, module_around, privately}
+use Rattle.module_tree.specs.rules.Examples.{smallest, smallest_snapshot, smallest_accepted}
 use Rattle.module_tree.proofs.Privately.{not_private, differs_is}
 
 -- The walk says that f is visible from the crate's root,

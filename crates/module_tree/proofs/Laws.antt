@@ -4,7 +4,7 @@ use Prim.Native.Nat.{ℕ, zero, suc, ◌≤◌, ◌<◌}
 use native.Mathlib.Omega.{arith}
 use mathlib.Core.Bool.{Bool, ◌||◌, or-false}
 use lib.Dec.{eqb}
-use Rattle.tree_rules.specs.Visibility.{last_or, last_to, last, met_or, met_to, met}
+use Rattle.module_tree.specs.rules.Visibility.{last_or, last_to, last, met_or, met_to, met}
 
 pub by_number : {C : Type 0} (k : ℕ) → (k ≡ 0 → C) → ((p : ℕ) → k ≡ suc p → C) → C
 by_number zero z f = z refl

@@ -8,3 +8,4 @@ pub mod Private
 pub mod Privately
 pub mod Differences
 pub mod Roots
+pub mod rules

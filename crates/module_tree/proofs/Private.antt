@@ -14,8 +14,8 @@ use Rattle.accept.specs.Valid.{Tree, ScopeFits}
 use Rattle.accept.proofs.Accepted.{by_test}
 use Rattle.accept.proofs.Valid.{accepted_valid}
 use Rattle.accept.proofs.Bools.{each_at}
-use Rattle.tree_rules.specs.Modules.{map_of, map_no, parent_of, block_of, crate_of, containing}
-use Rattle.tree_rules.specs.Visibility.{met, climb, in_module, is_visible_from, sees}
+use Rattle.module_tree.specs.rules.Modules.{map_of, map_no, parent_of, block_of, crate_of, containing}
+use Rattle.module_tree.specs.rules.Visibility.{met, climb, in_module, is_visible_from, sees}
 use Rattle.module_tree.specs.Privacy.{StandsIn, inner, outermost, block, Visible, Privacy}
 use Rattle.module_tree.specs.Differs.{Leaves, here, later, Differs, Exception, Known, Answers, InBlock}
 use Rattle.module_tree.proofs.Laws.{by_number}

@@ -11,11 +11,11 @@ use Rattle.check_rules.specs.Verdict.{accept, verdict}
 use Rattle.accept.specs.Valid.{Tree}
 use Rattle.accept.proofs.Trees.{accepted_tree}
 use Rattle.accept.proofs.Accepted.{by_test}
-use Rattle.tree_rules.specs.Modules.{parent_of, block_of, containing}
-use Rattle.tree_rules.specs.Visibility.{in_module}
+use Rattle.module_tree.specs.rules.Modules.{parent_of, block_of, containing}
+use Rattle.module_tree.specs.rules.Visibility.{in_module}
 use Rattle.module_tree.specs.Privacy.{StandsIn, inner, outermost, block, Visible}
 use Rattle.module_tree.specs.Differs.{Differs}
-use Rattle.tree_rules.specs.Privately.{of_root, block_step, module_around, privately}
+use Rattle.module_tree.specs.rules.Privately.{of_root, block_step, module_around, privately}
 use Rattle.module_tree.proofs.Laws.{by_number, Falls}
 use Rattle.module_tree.proofs.Chains.{block_fits, containing_falls}
 use Rattle.module_tree.proofs.Ways.{last_end, last_on, met_meets, meets_met}

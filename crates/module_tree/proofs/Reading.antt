@@ -17,12 +17,12 @@ use Rattle.snapshot.specs.Layouts.{crate_base, module_map, module_head, module_p
 use Rattle.snapshot.specs.declared.layout.Layout.{Layout}
 use Rattle.snapshot.proofs.Laws.{get_d_rows, length_rows}
 use Rattle.check_rules.specs.Tests.{is_own}
-use Rattle.record_rules.specs.Stands.{own_from}
+use Rattle.check_records.specs.record_rules.Stands.{own_from}
 use Rattle.accept.specs.Post.{Tables, Reads}
 use Rattle.accept.proofs.Valid.{accepted_valid}
 use Rattle.module_tree.proofs.Roots.{crate_known}
-use Rattle.tree_rules.specs.Modules.{place_of}
-use Rattle.tree_rules.specs.Modules.{module_of, map_of, map_no, crate_of, parent_of, block_of, root_of, own_map as own_of, or_else}
+use Rattle.module_tree.specs.rules.Modules.{place_of}
+use Rattle.module_tree.specs.rules.Modules.{module_of, map_of, map_no, crate_of, parent_of, block_of, root_of, own_map as own_of, or_else}
 
 module _ (W A : List ℕ) (l : Layout) (t : Tables W A l) where
   module_read : (m : ℕ) → m < l.modules → module_row A m ≡ module_of (snap_of W A l) m

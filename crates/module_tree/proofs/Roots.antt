@@ -12,8 +12,8 @@ use Rattle.check_rules.specs.Tests.{no_map, no_module}
 use Rattle.accept.specs.Valid.{Valid}
 use Rattle.accept.proofs.Accepted.{by_test}
 use Rattle.accept.proofs.Bools.{and_two, each_at}
-use Rattle.tree_rules.specs.Modules.{place_of}
-use Rattle.tree_rules.specs.Modules.{module_of, map_of, map_no, crate_of, parent_of, root_of, own_map, crate_root}
+use Rattle.module_tree.specs.rules.Modules.{place_of}
+use Rattle.module_tree.specs.rules.Modules.{module_of, map_of, map_no, crate_of, parent_of, root_of, own_map, crate_root}
 use Rattle.module_tree.proofs.Chains.{root_first, map_known}
 
 -- the place of the first that passes, where one does

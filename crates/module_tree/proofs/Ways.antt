@@ -6,7 +6,7 @@ use Prim.Native.Nat.{ℕ, zero, suc, ◌<◌}
 use native.Mathlib.Omega.{arith}
 use lib.Dec.{eqb}
 use borrow.Author.Tests.{eqb-true, eq-eqb}
-use Rattle.tree_rules.specs.Visibility.{last_or, last, met_or, met}
+use Rattle.module_tree.specs.rules.Visibility.{last_or, last, met_or, met}
 use Rattle.module_tree.specs.Differs.{Meets, now, on}
 use Rattle.module_tree.proofs.Laws.{by_number, Falls, last_more, met_more}
 

@@ -1,8 +1,8 @@
 -- Where the walk and privacy differ.
 use Rattle.std.specs.Prelude.{◌≡◌, Bool, true, ◌⊎◌, ℕ, zero, suc, ◌<◌, length}
 use Rattle.snapshot.specs.Records.{Snapshot}
-use Rattle.tree_rules.specs.Modules.{map_no, parent_of, block_of, containing}
-use Rattle.tree_rules.specs.Visibility.{climb_step, climb}
+use Rattle.module_tree.specs.rules.Modules.{map_no, parent_of, block_of, containing}
+use Rattle.module_tree.specs.rules.Visibility.{climb_step, climb}
 
 -- the steps from v meet t
 pub data Meets (step : ℕ → ℕ) (t : ℕ) : ℕ → Type 0 where

@@ -1,2 +1,3 @@
 pub mod Privacy
 pub mod Differs
+pub mod rules

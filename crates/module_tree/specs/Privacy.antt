@@ -2,7 +2,7 @@
 -- the descendants of that module. A block is no module: what stands in a block stands in the nearest module around it.
 use Rattle.std.specs.Prelude.{◌≡◌, ℕ, zero, suc}
 use Rattle.snapshot.specs.Records.{Snapshot}
-use Rattle.tree_rules.specs.Modules.{parent_of, block_of, crate_of}
+use Rattle.module_tree.specs.rules.Modules.{parent_of, block_of, crate_of}
 
 -- What stands in the recorded module m stands in the module x: m itself, or, for the root of a block's map, the module in which
 -- the block stands.

@@ -2,8 +2,8 @@
 ghost use Rattle.std.specs.Prelude.{◌≡◌, ◌<◌, ◌≤◌};
 ghost use Rattle.snapshot.specs.Visibilities.{visibility_kind, visibility_number};
 ghost use Rattle.accept.specs.Opened.{snap_in};
-ghost use Rattle.tree_rules.specs.Modules.{containing as containing_of};
-ghost use Rattle.tree_rules.specs.Visibility.{climb as climb_of, met as met_of, in_module, is_visible_from};
+ghost use Rattle.module_tree.specs.rules.Modules.{containing as containing_of};
+ghost use Rattle.module_tree.specs.rules.Visibility.{climb as climb_of, met as met_of, in_module, is_visible_from};
 
 use crate::modules::{block, containing_module, krate, map};
 use accept::opened::Snapshot;

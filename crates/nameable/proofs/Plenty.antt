@@ -15,9 +15,9 @@ use Rattle.check_rules.specs.Tests.{counts_of, no_definition}
 use Rattle.accept.specs.Valid.{Each, more, Valid, ScopeFits, ExternFits}
 use Rattle.accept.proofs.Accepted.{by_test}
 use Rattle.accept.proofs.Bools.{and_two, each_at}
-use Rattle.tree_rules.specs.Modules.{map_no, crate_of, parent_of, crate_root}
+use Rattle.module_tree.specs.rules.Modules.{map_no, crate_of, parent_of, crate_root}
 use Rattle.module_tree.specs.Privacy.{StandsIn, inner, outermost, block}
-use Rattle.tree_rules.specs.Privately.{module_around}
+use Rattle.module_tree.specs.rules.Privately.{module_around}
 use Rattle.module_tree.proofs.Laws.{by_number}
 use Rattle.module_tree.proofs.Chains.{parent_fits, block_fits}
 use Rattle.module_tree.proofs.Roots.{crate_root_known}

@@ -14,7 +14,7 @@ use Rattle.accept.specs.Valid.{ScopeFits}
 use Rattle.check_rules.specs.Verdict.{accept, verdict}
 use Rattle.accept.proofs.Bools.{and_two}
 use Rattle.accept.proofs.Valid.{accepted_valid}
-use Rattle.tree_rules.specs.Modules.{crate_of}
+use Rattle.module_tree.specs.rules.Modules.{crate_of}
 use Rattle.module_tree.specs.Privacy.{Privacy}
 use Rattle.module_tree.specs.Differs.{Known}
 use Rattle.module_tree.proofs.Privately.{privately_is}

@@ -9,9 +9,9 @@ use Rattle.check_rules.specs.Tests.{text_bound, padded}
 use Rattle.check_rules.specs.Steps.{name_step, crate_step, dependency_step, map_step, module_step, child_step, prelude_step, definition_step, scope_step}
 use Rattle.check_rules.specs.Steps.{import_step, extern_step, member_step}
 use Rattle.check_rules.specs.Verdict.{Verdict, refuse, accept, arguments_from, record_step, step_at, finish, records, verdict}
-use Rattle.tree_rules.specs.Modules.{place_of, module_of, map_of, root_of, own_map, crate_root, or_else, containing}
-use Rattle.tree_rules.specs.Visibility.{last_or, last_to, last, met_or, met_to, met}
-use Rattle.tree_rules.specs.Privately.{of_root, block_step, module_around, privately}
+use Rattle.module_tree.specs.rules.Modules.{place_of, module_of, map_of, root_of, own_map, crate_root, or_else, containing}
+use Rattle.module_tree.specs.rules.Visibility.{last_or, last_to, last, met_or, met_to, met}
+use Rattle.module_tree.specs.rules.Privately.{of_root, block_step, module_around, privately}
 use Rattle.hir_def.specs.Finds.{first_of, select, or_first}
 use Rattle.hir_def.specs.Items.{definition_of, crate_data, item_of, same_item, ns_of, home_by, module_item, defined_item}
 use Rattle.hir_def.specs.Nameres.{steps_or, steps_to, steps, prelude_of}

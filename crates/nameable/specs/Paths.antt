@@ -2,8 +2,8 @@
 use Rattle.std.specs.Prelude.{ℕ, zero, suc, ◌≡◌, List, [], ◌∷◌, ◌++◌, map, Bool, true, false, ◌&&◌, eqb, ltb}
 use Rattle.std.specs.Prelude.{Option, None, Some}
 use Rattle.snapshot.specs.Records.{Snapshot, Scope, Prelude, Extern, Member}
-use Rattle.tree_rules.specs.Modules.{map_no, crate_of, parent_of, crate_root}
-use Rattle.tree_rules.specs.Privately.{block_step, module_around}
+use Rattle.module_tree.specs.rules.Modules.{map_no, crate_of, parent_of, crate_root}
+use Rattle.module_tree.specs.rules.Privately.{block_step, module_around}
 use Rattle.hir_def.specs.Finds.{first_of, select}
 use Rattle.hir_def.specs.Items.{types, macros, definition_of, crate_data, item_of, ns_of, module_item, defined_item}
 use Rattle.hir_def.specs.Nameres.{steps, prelude_of}

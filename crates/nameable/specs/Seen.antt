@@ -2,9 +2,9 @@
 use Rattle.std.specs.Prelude.{ℕ, zero, suc, Bool, true, false, ◌&&◌, eqb}
 use Rattle.std.specs.Prelude.{Option, None, Some}
 use Rattle.snapshot.specs.Records.{Snapshot, Scope}
-use Rattle.tree_rules.specs.Modules.{crate_of, parent_of}
+use Rattle.module_tree.specs.rules.Modules.{crate_of, parent_of}
 use Rattle.module_tree.specs.Privacy.{Privacy}
-use Rattle.tree_rules.specs.Privately.{privately}
+use Rattle.module_tree.specs.rules.Privately.{privately}
 use Rattle.hir_def.specs.Finds.{first_of}
 use Rattle.hir_def.specs.Items.{types, module_kind, variant_kind, definition_of, home_by}
 use Rattle.hir_def.specs.ItemScope.{is_declared}

@@ -2,8 +2,8 @@
 #![tactic(auto)]
 
 use printer::each::each_line;
+use printer::route::RoutedBytes;
 use printing::input::ByteCount;
-use route_line::route::RoutedBytes;
 use snapshot::ids::WordCount;
 use std::io;
 use std::process::ExitCode;

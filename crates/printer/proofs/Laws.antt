@@ -20,14 +20,14 @@ use Rattle.accept.specs.Post.{Checked, Judged}
 use Rattle.accept.proofs.Accepted.{by_test}
 use Rattle.accept.proofs.Bools.{and_left}
 use Rattle.printing.specs.Output.{Put}
-use Rattle.find_path.specs.declared.Question.{Question}
-use Rattle.find_path.specs.Report.{refused}
-use Rattle.find_path.specs.Line.{bytes_of, line_in, line_of, routed_line_of}
-use Rattle.checked.specs.Lines.{LineOn}
-use Rattle.reach_parts.specs.declared.Viewer.{Viewer}
-use Rattle.reach_parts.specs.Reach.{reach_of, reach_line}
+use Rattle.find_path_spec.specs.declared.Question.{Question}
+use Rattle.find_path_spec.specs.Report.{refused}
+use Rattle.find_path_spec.specs.Line.{bytes_of, line_in, line_of, routed_line_of}
+use Rattle.answer.specs.checked.Lines.{LineOn}
+use Rattle.reach.specs.declared.parts.Viewer.{Viewer}
+use Rattle.reach.specs.parts.Reach.{reach_of, reach_line}
 use Rattle.reach.specs.Reached.{ReachLineOn}
-use Rattle.route_line.specs.Routed.{RoutedOn}
+use Rattle.printer.specs.route.Routed.{RoutedOn}
 use Rattle.printer.specs.Printed.{is_question, is_head, first_from, questions_at, is_argument, whole_at, question_at, asks_route, reach_at, viewer_at}
 use Rattle.printer.specs.Printed.{line_at, next_at, input_fault, Printed}
 

@@ -1,3 +1,4 @@
 pub mod Laws
 pub mod Whole
 pub mod Texts
+pub mod rules

@@ -8,8 +8,8 @@ use Rattle.snapshot.specs.Records.{Snapshot}
 use Rattle.check_rules.specs.Verdict.{empty}
 use Rattle.printing.specs.Input.{words_in}
 use Rattle.printing.specs.Output.{Put}
-use Rattle.find_path.specs.Report.{refused}
-use Rattle.find_path.specs.Line.{bytes_of, line_in}
+use Rattle.find_path_spec.specs.Report.{refused}
+use Rattle.find_path_spec.specs.Line.{bytes_of, line_in}
 use Rattle.accept.specs.Post.{Checked}
 use Rattle.printer.specs.Printed.{questions_at, lines_from, lines_of, lines_unless, input_fault, printed, Turns, ended}
 use Rattle.printer.proofs.Whole.{turns_printed, fault_printed}

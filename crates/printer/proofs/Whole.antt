@@ -11,8 +11,8 @@ use Rattle.accept.specs.Post.{Checked}
 use Rattle.snapshot.specs.Lists.{rows, all, eq_list}
 use Rattle.accept.proofs.Bools.{and_left, and_two}
 use Rattle.printing.specs.Input.{words_in}
-use Rattle.find_path.specs.Line.{bytes_of, line_of}
-use Rattle.find_path.proofs.Worked.{Row, passes}
+use Rattle.find_path_spec.specs.Line.{bytes_of, line_of}
+use Rattle.find_path_spec.proofs.Worked.{Row, passes}
 use Rattle.check_rules.specs.Worked.{worked}
 use Rattle.printer.specs.Printed.{first_from, questions_at, whole_at, question_at, reach_at, refusal_line, line_at, next_at, lines_from, lines_of}
 use Rattle.printer.specs.Printed.{lines_unless, input_fault, printed, Turns, end, turn, ended}

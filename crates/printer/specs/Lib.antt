@@ -1,2 +1,4 @@
 pub mod Printed
 pub mod QuestionKinds
+pub mod rules
+pub mod route

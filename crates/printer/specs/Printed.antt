@@ -2,10 +2,10 @@
 use Rattle.std.specs.Prelude.{ℕ, ◌≤◌, ◌<◌, ◌≡◌, List, [], ◌∷◌, ◌++◌, length, take, drop}
 use Rattle.std.specs.Counts.{IsPrefixLen}
 use Rattle.accept.specs.Post.{Checked, Judged}
-use Rattle.find_path.specs.Line.{bytes_of}
+use Rattle.find_path_spec.specs.Line.{bytes_of}
 use Rattle.printer.specs.declared.lines.Turn.{Turn}
-pub use Rattle.printed_lines.specs.Printed.{is_question, is_head, is_argument, refusal_line, asks_route}
-unfoldable pub use Rattle.printed_lines.specs.Printed.{
+pub use Rattle.printer.specs.rules.Printed.{is_question, is_head, is_argument, refusal_line, asks_route}
+unfoldable pub use Rattle.printer.specs.rules.Printed.{
   first_from,
   questions_at,
   whole_at,

@@ -9,7 +9,7 @@ use crate::input::input_fault;
 use crate::lines::next_line;
 use crate::questions::first_question;
 use accept::check::check;
-use line::line::put_refusal;
+use line::put_refusal;
 use printing::input::words_in;
 use snapshot::ids::Area;
 

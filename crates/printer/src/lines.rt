@@ -5,11 +5,11 @@ ghost use Rattle.accept.specs.Post.{Judged};
 ghost use Rattle.printer.specs.Printed.{Printed};
 
 use crate::questions::{asks_route, is_reach, is_whole, question_at, viewer_at};
+use crate::route::lines::routed_line_on;
 use accept::check::Refused;
-use checked::lines::line_on;
-use line::line::put_refusal;
+use answer::checked::lines::line_on;
+use line::put_refusal;
 use reach::lines::reach_line_on;
-use route_line::lines::routed_line_on;
 use snapshot::ids::Area;
 use snapshot::kind::Size;
 use snapshot::layout::Layout;

@@ -3,11 +3,11 @@ ghost use Rattle.std.specs.Prelude.{◌≡◌, ◌+◌, ◌≤◌, length};
 ghost use Rattle.printer.specs.QuestionKinds.{question_kind_of};
 ghost use Rattle.printer.specs.Printed.{is_question, is_head, questions_at, is_argument, whole_at, asks_route, reach_at, question_at, viewer_at};
 
-use find_path::{Query, Question};
-use reach_parts::Viewer;
+use find_path_spec::{Query, Question};
+use reach::parts::Viewer;
 use snapshot::ids::{DefinitionId, ModuleId};
 use snapshot::kind::{Kind, Size};
-use snapshot::words::{field, kind, payload};
+use snapshot::reading::{field, kind, payload};
 
 /// The kinds of what is asked: a path, a path with its route, and the reach of a module.
 // Three kinds of the format; that a number is none of them is the `None` of `of`.
@@ -106,7 +106,7 @@ pub fn asks_route(words: &[u32], at: usize) -> bool
 }
 
 /// The question at a place.
-// The words of `questions::question_of` in another order, the first in a head with a kind: by one reader each field would take its place as a parameter.
+// The words of `reports::questions::question_of` in another order, the first in a head with a kind: by one reader each field would take its place as a parameter.
 pub fn question_at(words: &[u32], at: usize) -> Question
     ensures { result ≡ question_at words.now at }
 {

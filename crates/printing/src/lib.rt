@@ -1,5 +1,7 @@
-//! Bytes that come in as words, and text that goes out as bytes.
+//! Bytes that come in as words, text that goes out as bytes, and what a refusal says in words.
+//! Uses `snapshot` alone.
 #![tactic(auto)]
 
 pub mod input;
 pub mod output;
+pub mod wording;

@@ -22,16 +22,16 @@ use Rattle.accept.specs.declared.check.Refused.{Refused}
 use Rattle.check_rules.specs.Verdict.{refuse, accept, verdict}
 use Rattle.accept.proofs.Reading.{scope_read}
 use Rattle.accept.proofs.Valid.{accepted_valid}
-use Rattle.find_path.specs.declared.Report.{Report}
-use Rattle.find_path.specs.Report.{call_fault}
-use Rattle.search_laws.proofs.Bounds.{zeros}
-use Rattle.search_laws.proofs.Tables.{same_snap}
-use Rattle.checked.proofs.Laws.{judged_stays}
-use Rattle.reach_parts.specs.declared.Viewer.{Viewer}
-use Rattle.reach_parts.specs.Within.{Within}
-use Rattle.reach_parts.specs.Reach.{Reach, is_met, new_from, distinct, report_for, tallied, tallied_reach, tally_all, reach_in, refused_reach, reach_by, reach_unless}
-use Rattle.reach_parts.specs.Reach.{reach_of, query_for}
-use Rattle.reach_parts.proofs.Laws.{Limited, report_few, report_flag, tallied_long, tallied_within}
+use Rattle.find_path_spec.specs.declared.Report.{Report}
+use Rattle.find_path_spec.specs.Report.{call_fault}
+use Rattle.find_path_spec.proofs.laws.Bounds.{zeros}
+use Rattle.find_path_spec.proofs.laws.Tables.{same_snap}
+use Rattle.answer.proofs.checked.Laws.{judged_stays}
+use Rattle.reach.specs.declared.parts.Viewer.{Viewer}
+use Rattle.reach.specs.parts.Within.{Within}
+use Rattle.reach.specs.parts.Reach.{Reach, is_met, new_from, distinct, report_for, tallied, tallied_reach, tally_all, reach_in, refused_reach, reach_by, reach_unless}
+use Rattle.reach.specs.parts.Reach.{reach_of, query_for}
+use Rattle.reach.proofs.parts.Laws.{Limited, report_few, report_flag, tallied_long, tallied_within}
 
 -- the test of the code
 

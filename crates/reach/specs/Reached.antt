@@ -2,10 +2,10 @@
 use Rattle.std.specs.Prelude.{ℕ, ◌≡◌, List, ◌++◌}
 use Rattle.snapshot.specs.Limits.{area_limit}
 use Rattle.accept.specs.Post.{Judged, Checked}
-use Rattle.reach_parts.specs.declared.Viewer.{Viewer}
+use Rattle.reach.specs.declared.parts.Viewer.{Viewer}
 use Rattle.printing.specs.Output.{Put}
-use Rattle.find_path.specs.Line.{bytes_of}
-use Rattle.reach_parts.specs.Reach.{Reach, reach_of, reach_line}
+use Rattle.find_path_spec.specs.Line.{bytes_of}
+use Rattle.reach.specs.parts.Reach.{Reach, reach_of, reach_line}
 
 -- W are the words, A the work area after the call: the reach is that of the definition, and the words stay checked
 pub record Reached (W : List ℕ) (v : Viewer) (c : Checked) (A : List ℕ) (r : Reach) : Type 0 where

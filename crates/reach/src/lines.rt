@@ -4,10 +4,10 @@ ghost use Rattle.snapshot.specs.Limits.{area_limit, line_limit};
 ghost use Rattle.accept.specs.Post.{Judged};
 ghost use Rattle.reach.specs.Reached.{ReachLineOn};
 
-use crate::reach::reach_on;
+use crate::one_line::put_reach;
+use crate::parts::Viewer;
+use crate::reach_on;
 use accept::check::Refused;
-use reach_line::put_reach;
-use reach_parts::Viewer;
 use snapshot::ids::Area;
 use snapshot::layout::Layout;
 

@@ -15,16 +15,16 @@ use Rattle.snapshot.specs.declared.ids.PathKind.TheVariants.{Plain, SelfModule, 
 use Rattle.std.proofs.lemmas.List.{take_all}
 use Rattle.snapshot.specs.Records.{Snapshot, Scope, Prelude, Extern, Member}
 use Rattle.snapshot.proofs.Laws.{rows_next, rows_none, rows_part, rows_ext}
-use Rattle.tree_rules.specs.Modules.{map_no, crate_of, parent_of, crate_root}
-use Rattle.tree_rules.specs.Visibility.{sees}
+use Rattle.module_tree.specs.rules.Modules.{map_no, crate_of, parent_of, crate_root}
+use Rattle.module_tree.specs.rules.Visibility.{sees}
 use Rattle.hir_def.specs.Finds.{or_first}
 use Rattle.hir_def.specs.Items.{types, item_of, same_item, ns_of, module_item, defined_item}
 use Rattle.hir_def.specs.ItemScope.{get}
 use Rattle.hir_def.specs.Nameres.{prelude_of}
 use Rattle.hir_def.specs.declared.Item.{Item}
-use Rattle.readings.specs.Reads.{stands_for, meaning, entry_or, extern_named, extern_means, in_externs, prelude_means, in_prelude_of, entry_from, first_name}
-use Rattle.readings.specs.Reads.{variant_named, variant_in, later_name, after, looked_in, follow, plainly, absolutely, parent_means, reads_to, is_the}
-use Rattle.readings.specs.Reads.{reads_back}
+use Rattle.read_back.specs.readings.Reads.{stands_for, meaning, entry_or, extern_named, extern_means, in_externs, prelude_means, in_prelude_of, entry_from, first_name}
+use Rattle.read_back.specs.readings.Reads.{variant_named, variant_in, later_name, after, looked_in, follow, plainly, absolutely, parent_means, reads_to, is_the}
+use Rattle.read_back.specs.readings.Reads.{reads_back}
 
 module _ (s : Snapshot) (from : ℕ) where
   -- an entry

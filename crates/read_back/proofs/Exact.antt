@@ -11,7 +11,7 @@ use Rattle.accept.proofs.Bools.{and_two}
 use Rattle.hir_def.specs.Items.{same_item, ns_of, module_item, defined_item}
 use Rattle.hir_def.specs.declared.Item.{Item}
 use Rattle.hir_def.specs.declared.Item.TheVariants.{Mod, Def}
-use Rattle.readings.specs.Reads.{reads_to, is_the, reads_back}
+use Rattle.read_back.specs.readings.Reads.{reads_to, is_the, reads_back}
 
 pub same_item_lem : (a b : Item) → same_item a b ≡ true → a ≡ b
 unfolding same_item

@@ -7,13 +7,13 @@ use native.Mathlib.Omega.{arith}
 use Rattle.snapshot.specs.Records.{scope_at}
 use Rattle.snapshot.specs.Layouts.{snap_of}
 use Rattle.snapshot.specs.declared.layout.Layout.{Layout}
-use Rattle.record_rules.specs.Stands.{counts_in}
+use Rattle.check_records.specs.record_rules.Stands.{counts_in}
 use Rattle.accept.specs.Post.{Reads}
 use Rattle.accept.specs.Valid.{ScopeFits}
 use Rattle.hir_def.specs.Finds.{first_some}
 use Rattle.hir_def.specs.ItemScope.{get}
 use Rattle.hir_def.proofs.Fits.{get_fits}
-use Rattle.readings.specs.Reads.{scopes_from, entry_from}
+use Rattle.read_back.specs.readings.Reads.{scopes_from, entry_from}
 
 by_option : {B C : Type 0} (o : Option B) → (o ≡ None → C) → ((y : B) → o ≡ Some y → C) → C
 by_option None f g = f refl

@@ -10,10 +10,10 @@ use lib.ListN.{length}
 use Rattle.snapshot.specs.Records.{Snapshot}
 use Rattle.accept.specs.Valid.{Tree}
 use Rattle.accept.proofs.Accepted.{by_test}
-use Rattle.tree_rules.specs.Modules.{map_of, parent_of, block_of, crate_root}
+use Rattle.module_tree.specs.rules.Modules.{map_of, parent_of, block_of, crate_root}
 use Rattle.module_tree.proofs.Chains.{parent_fits}
 use Rattle.hir_def.specs.Items.{module_item}
-use Rattle.readings.specs.Reads.{self_kind, super_kind, crate_kind, stands_for, follow, parent_means, reads_to}
+use Rattle.read_back.specs.readings.Reads.{self_kind, super_kind, crate_kind, stands_for, follow, parent_means, reads_to}
 use Rattle.read_back.proofs.Outward.{outward_root, outward_none, outward_falls, stands_here}
 
 module _ (s : Snapshot) (from ns : ℕ) where

@@ -3,3 +3,4 @@ pub mod Found
 pub mod Cases
 pub mod Exact
 pub mod Keywords
+pub mod readings

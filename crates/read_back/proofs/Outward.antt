@@ -14,11 +14,11 @@ use Rattle.accept.proofs.Trees.{accepted_tree}
 use Rattle.hir_def.proofs.Reading.{length_modules}
 use Rattle.accept.specs.Valid.{Tree}
 use Rattle.accept.proofs.Accepted.{by_test}
-use Rattle.tree_rules.specs.Modules.{parent_of, block_of}
-use Rattle.tree_rules.specs.Visibility.{last_or}
+use Rattle.module_tree.specs.rules.Modules.{parent_of, block_of}
+use Rattle.module_tree.specs.rules.Visibility.{last_or}
 use Rattle.module_tree.proofs.Chains.{block_falls}
 use Rattle.module_tree.proofs.Laws.{Falls, last_more}
-use Rattle.readings.specs.Reads.{outward, stands_for}
+use Rattle.read_back.specs.readings.Reads.{outward, stands_for}
 
 module _ (s : Snapshot) (m : ℕ) where
   pub outward_root : parent_of s m ≡ 0 → outward s m ≡ block_of s m

@@ -4,17 +4,17 @@ ghost use Rattle.snapshot.specs.Ids.{plus_one};
 ghost use Rattle.snapshot.specs.Records.{scope_at};
 ghost use Rattle.accept.specs.Opened.{snap_in};
 ghost use Rattle.hir_def.specs.Entries.{entry_of};
-ghost use Rattle.readings.specs.Reads.{outward as outward_of, stands_for, entry_from};
+ghost use Rattle.read_back.specs.readings.Reads.{outward as outward_of, stands_for, entry_from};
 
 use accept::opened::Snapshot;
 use hir_def::View;
 use hir_def::finds::nearest;
-use hir_def::modules::{block, parent};
-use item_scope::get;
+use hir_def::item_scope::get;
+use module_tree::modules::{block, parent};
 use snapshot::ids::{ModuleId, Name};
 
 // The block's parent of a block map's root, none of any other module.
-// `seen_entries::privacy::block_step` is the same step, of `tree_rules`, which defines privacy; this is of `readings`, which defines how names are
+// `any_path::seen_entries::privacy::block_step` is the same step, of `tree_rules`, which defines privacy; this is of `readings`, which defines how names are
 // read: two definitions, so that a change of one is no change of the other.
 fn outward(db: &Snapshot, m: ModuleId) -> Option<ModuleId>
     requires { m.0 < db.now.records.layout.modules }

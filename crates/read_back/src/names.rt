@@ -6,16 +6,16 @@ ghost use Rattle.snapshot.specs.Laid.{snap_by};
 ghost use Rattle.accept.specs.Opened.{snap_in};
 ghost use Rattle.hir_def.specs.ItemScope.{get as entry_named};
 ghost use Rattle.hir_def.specs.declared.Item.TheVariants.{Mod};
-ghost use Rattle.readings.specs.Reads.{meaning as meaning_of, entry_or, in_externs, in_prelude_of, first_name, variant_named, variant_in, later_name, after};
+ghost use Rattle.read_back.specs.readings.Reads.{meaning as meaning_of, entry_or, in_externs, in_prelude_of, first_name, variant_named, variant_in, later_name, after};
 
 use crate::blocks::entry_from;
 use crate::lookups::{extern_named, variant_named};
-use crate_graph::prelude_of;
+use hir_def::crate_graph::prelude_of;
+use hir_def::item_scope::get;
 use hir_def::items::{item_at, item_of};
-use hir_def::modules::{krate, map};
-use hir_def::visibility::is_visible_from;
 use hir_def::{Item, View};
-use item_scope::get;
+use module_tree::modules::{krate, map};
+use module_tree::visibility::is_visible_from;
 use snapshot::ids::{DefinitionId, ModuleId, Name, Namespace};
 use snapshot::record::{extern_target, member_definition, prelude_target, scope_seen};
 use snapshot::records::Records;
@@ -62,7 +62,7 @@ pub(crate) fn in_externs(view: &View, ns: usize, name: Name) -> Option<Item>
 }
 
 // By the prelude of the viewer's map.
-// `any_path::prelude_named` and `arrivals::plain_in_prelude` look up in the module by functions of their own: one of all three would be these two
+// `any_path::prelude_named` and `told_paths::arrivals::plain_in_prelude` look up in the module by functions of their own: one of all three would be these two
 // lines with a closure, under a clause over what it answers.
 fn in_prelude(view: &View, ns: usize, name: Name) -> Option<Item>
     ensures { result ≡ in_prelude_of (snap_in view.now.db) view.now.from.0 ns name.0 }
@@ -95,7 +95,7 @@ fn in_enum(records: &Records, d: DefinitionId, ns: usize, name: Name) -> Option<
 }
 
 // A name after an item.
-// `told_routes::in_item` has these arms over functions that tell the place of the record too.
+// `told_paths::told_routes::in_item` has these arms over functions that tell the place of the record too.
 fn later_name(view: &View, ns: usize, name: Name, item: Item) -> Option<Item>
     ensures { result ≡ later_name (snap_in view.now.db) view.now.from.0 ns name.0 item }
 {

@@ -3,18 +3,18 @@ ghost use Rattle.std.specs.Prelude.{◌≡◌, ℕ, ◌+◌, ◌-◌, ◌<◌, l
 ghost use Rattle.snapshot.specs.Lists.{rows};
 ghost use Rattle.accept.specs.Opened.{snap_in};
 ghost use Rattle.hir_def.specs.Items.{parent_of};
-ghost use Rattle.readings.specs.Reads.{stands_for, parent_means, looked_in, follow as follow_of, absolutely, plainly, reads_to, reads_back};
+ghost use Rattle.read_back.specs.readings.Reads.{stands_for, parent_means, looked_in, follow as follow_of, absolutely, plainly, reads_to, reads_back};
 
 use crate::blocks::stands_for;
 use crate::names::{first_name, in_externs, means_module, next_name};
 use accept::opened::Snapshot;
 use hir_def::items::ns_of;
-use hir_def::modules::{crate_root, parent};
 use hir_def::{Item, View};
+use module_tree::modules::{crate_root, parent};
 use snapshot::ids::{ModuleId, Name, Namespace, PathKind};
 
 // Where the name k of so many is looked up.
-// `told_routes::looked_in` answers the same over the definition of another list of names, counted from the last.
+// `told_paths::told_routes::looked_in` answers the same over the definition of another list of names, counted from the last.
 fn looked_in(ns: usize, k: usize, count: usize) -> usize
     requires { k < count }
     ensures { (f : ℕ → ℕ) → result ≡ looked_in ns (rows f (k + 1) (count - (k + 1))) }

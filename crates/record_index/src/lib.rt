@@ -1,5 +1,5 @@
-//! The index of accepted words, in the work area after the rows of the check: the scope records of each module as a chain in record order, and of the
-//! dependencies, imports and externs where each crate's stand. A lookup in one scope, or of a crate, reads these records alone.
+//! The index of accepted words: each module's scope records, and where each crate's dependencies, imports and externs stand.
+//! Uses `snapshot` alone.
 #![tactic(auto)]
 
 ghost use Rattle.std.specs.Prelude.{◌≡◌, ◌+◌, ◌≤◌, ◌<◌, ◌^◌, length};

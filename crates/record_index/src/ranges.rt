@@ -4,7 +4,7 @@ ghost use Rattle.snapshot.specs.Limits.{crate_limit};
 ghost use Rattle.record_index.specs.Post.{Emptied, Noted, Filled};
 
 use snapshot::ids::Crate;
-use snapshot::words::word;
+use snapshot::reading::word;
 
 // No crate has a record yet: each range ends at 0.
 fn clear_ends(area: &mut [u32], at: usize, crates: usize)

@@ -2,9 +2,9 @@
 use crate::SPACE;
 use crate::outcome::Outcome;
 use accept::check::check;
-use case_text::text::split_once;
-use case_text::words::words_of;
 use std::io;
+use streams::case_text::text::split_once;
+use streams::case_text::words::words_of;
 
 fn run_case(rt: &(impl Print + AllocGlobal), line: &[u8], area: &mut [u32]) -> io::Result<()> {
     let Some((name, words)) = split_once(line, b' ') else {

@@ -3,7 +3,7 @@ ghost use Rattle.std.specs.Prelude.{◌≤◌, vec_len};
 ghost use Rattle.snapshot.specs.Limits.{word_limit, routed_limit};
 
 use printer::each::each_line;
-use route_line::route::RoutedBytes;
+use printer::route::RoutedBytes;
 use snapshot::ids::{Area, WordCount};
 use std::alloc::{AllocError, Global};
 

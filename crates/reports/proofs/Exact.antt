@@ -4,11 +4,11 @@ use mathlib.Core.Path.{◌≡◌, refl, ap₂}
 use mathlib.Core.List.{List, [], ◌∷◌, ◌++◌, map}
 use native.Mathlib.Omega.{arith}
 use lib.ListN.{get_or}
-use Rattle.find_path.specs.declared.Question.{Question}
-use Rattle.find_path.specs.declared.Report.{Report}
-use Rattle.find_path.specs.Report.{report_of}
-use Rattle.search_laws.specs.Fuels.{Bounded, Small}
-use Rattle.search_laws.proofs.Reports.{report_bounded, report_small}
+use Rattle.find_path_spec.specs.declared.Question.{Question}
+use Rattle.find_path_spec.specs.declared.Report.{Report}
+use Rattle.find_path_spec.specs.Report.{report_of}
+use Rattle.find_path_spec.specs.laws.Fuels.{Bounded, Small}
+use Rattle.find_path_spec.proofs.laws.Reports.{report_bounded, report_small}
 use Rattle.reports.specs.Written.{low, report_words, report_numbers}
 
 low_same : (x : ℕ) → x ≤ 131072 → low x ≡ x

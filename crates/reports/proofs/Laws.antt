@@ -11,14 +11,14 @@ use lib.ListN.{length, length-append, take-append-drop, get_or, set, take, drop}
 use lib.Seq.{take_at, drop_at, take-length, drop-drop}
 use Rattle.std.specs.Int.{from_bool}
 use Rattle.snapshot.specs.Records.{Snapshot}
-use Rattle.path_choices.specs.Choices.{Choice}
-use Rattle.path_choices.specs.Given.{given}
-use Rattle.find_path.specs.declared.Found.{Found}
-use Rattle.find_path.specs.declared.Query.{Query}
-use Rattle.find_path.specs.declared.Report.{Report}
-use Rattle.find_path.specs.declared.Tank.{Tank}
-use Rattle.find_path.specs.Charged.{Found as Answer, Out, found_of, out_of, given_found}
-use Rattle.find_path.specs.Report.{flag, misleads, outcome_by, reported}
+use Rattle.find_path_choice.specs.Choices.{Choice}
+use Rattle.find_path_choice.specs.Given.{given}
+use Rattle.find_path_spec.specs.declared.Found.{Found}
+use Rattle.find_path_spec.specs.declared.Query.{Query}
+use Rattle.find_path_spec.specs.declared.Report.{Report}
+use Rattle.find_path_spec.specs.declared.Tank.{Tank}
+use Rattle.find_path_spec.specs.Charged.{Found as Answer, Out, found_of, out_of, given_found}
+use Rattle.find_path_spec.specs.Report.{flag, misleads, outcome_by, reported}
 use Rattle.reports.specs.Written.{low, report_words, written_to, Written, report_size}
 
 -- a flag as a number

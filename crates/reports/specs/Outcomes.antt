@@ -1,7 +1,7 @@
 -- The outcomes by their numbers.
 use Rattle.std.specs.Prelude.{ℕ}
-use Rattle.find_path.specs.declared.Outcome.{Outcome}
-use Rattle.find_path.specs.declared.Outcome.TheVariants.{Found, None, Refused, Misleads}
+use Rattle.find_path_spec.specs.declared.Outcome.{Outcome}
+use Rattle.find_path_spec.specs.declared.Outcome.TheVariants.{Found, None, Refused, Misleads}
 
 -- the number of an outcome
 abbrev pub outcome_number : Outcome → ℕ

@@ -1,7 +1,7 @@
 -- A report in words: outcome, refusal number, path kind, sixteen names, their count, charges, empty; the length left and the module looked
 -- for, +1, of the first charge that found the tank empty; the number of steps, and seventeen of them.
 use Rattle.std.specs.Prelude.{ℕ, ◌%◌, ◌≡◌, List, [], ◌∷◌, ◌++◌, map, Bool, true, false, ltb, leb, length, drop}
-use Rattle.find_path.specs.declared.Report.{Report}
+use Rattle.find_path_spec.specs.declared.Report.{Report}
 
 -- words of a report
 abbrev pub report_size : ℕ

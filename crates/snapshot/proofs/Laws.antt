@@ -10,14 +10,14 @@ use lib.ListN.{length, get_or, take, drop, length-take, length-drop, drop_of_len
 use lib.Seq.{get_or-take, get_or-drop, ext_get_or, take_all, take-nil}
 use borrow.Author.Tests.{eq-eqb, ne_eqb}
 use Rattle.snapshot.specs.Lists.{rows, any, all, eq_list}
-use Rattle.reading.specs.Words.{pay_of, words_of, text_at}
+use Rattle.snapshot.specs.reading.Words.{pay_of, words_of, text_at}
 use Rattle.snapshot.specs.Sizes.{argument_table, arguments_of}
 use Rattle.snapshot.specs.Refusals.{refusal_number}
 use Rattle.snapshot.specs.declared.refusal.Refusal.{Refusal}
 use Rattle.snapshot.specs.declared.refusal.Refusal.TheVariants.{Area, Fuel, Field, Unknown, Macro, Words, Form, Range, Undefined, Repeated, Place}
 use Rattle.snapshot.specs.declared.refusal.Refusal.TheVariants.{Count, Bytes, Rest, Question, Edition, Batch, Target, Limit, Entry, Room, Window}
 use Rattle.snapshot.specs.declared.refusal.Refusal.TheVariants.{Waits, Join}
-pub use Rattle.reading.proofs.Laws.{past}
+pub use Rattle.snapshot.proofs.reading.Laws.{past}
 
 pub arguments_name : (k p : ℕ) → k ≡ 1 → words_of p ≡ arguments_of k p
 unfolding arguments_of

@@ -13,3 +13,4 @@ pub mod Visibilities
 pub mod Origins
 pub mod Layouts
 pub mod Laid
+pub mod reading

@@ -2,7 +2,7 @@
 -- by knows the place of its head among the words; no test of the check looks at it.
 use Rattle.std.specs.Prelude.{ℕ, ◌+◌, ◌/◌, ◌%◌, List, get_or}
 use Rattle.snapshot.specs.Lists.{rows}
-use Rattle.reading.specs.Words.{pay_of, words_of}
+use Rattle.snapshot.specs.reading.Words.{pay_of, words_of}
 
 -- kind 1: the bytes of the text, and the words that hold them
 pub record Name : Type 0 where

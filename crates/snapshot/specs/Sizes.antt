@@ -1,6 +1,6 @@
 -- The words of a record and of a question: a head and arguments.
 use Rattle.std.specs.Prelude.{ℕ, ◌-◌, List, [], ◌∷◌, true, false, eqb, get_or}
-use Rattle.reading.specs.Words.{kind_of, pay_of, words_of}
+use Rattle.snapshot.specs.reading.Words.{kind_of, pay_of, words_of}
 
 -- the words of a record of each kind; a name's depend on its text
 

@@ -1,10 +1,10 @@
 //! The kinds of records and their arguments, in one table.
 ghost use Rattle.std.specs.Prelude.{◌≡◌, ◌+◌, ◌^◌, ◌<◌, get_or};
-ghost use Rattle.reading.specs.Words.{words_of};
+ghost use Rattle.snapshot.specs.reading.Words.{words_of};
 ghost use Rattle.snapshot.specs.Kinds.{kind_with};
 ghost use Rattle.snapshot.specs.Sizes.{argument_table, arguments_at};
 
-use crate::words::{kind, payload};
+use crate::reading::{kind, payload};
 
 /// A record's kind.
 // The kinds of the format, twelve where an `Option` has two; that a number is no kind is the `None` of `of`.

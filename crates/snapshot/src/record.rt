@@ -7,7 +7,7 @@ ghost use Rattle.snapshot.specs.MemberKinds.{member_kind_of};
 ghost use Rattle.snapshot.specs.Visibilities.{visibility_of};
 
 use crate::ids::{Crate, DefinitionId, DefinitionKind, MemberKind, ModuleId, Name, Visibility};
-use crate::words::{field, payload};
+use crate::reading::{field, payload};
 
 /// The number of a `CrateOrigin`, or a larger one.
 pub fn crate_origin(words: &[u32], at: usize) -> usize

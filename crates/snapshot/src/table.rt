@@ -5,7 +5,7 @@ ghost use Rattle.snapshot.specs.Layouts.{name_head, module_map, module_head, mod
 
 use crate::ids::{Crate, ModuleId, Name, WordCount};
 use crate::kind::Size;
-use crate::words::word;
+use crate::reading::word;
 
 /// The first word of each table, and the first word past them.
 pub struct Tables;

@@ -1,12 +1,12 @@
 //! The text of a name, handed back as the part of the snapshot that holds it.
 ghost use Rattle.std.specs.Prelude.{◌≡◌};
-ghost use Rattle.reading.specs.Words.{text_at};
+ghost use Rattle.snapshot.specs.reading.Words.{text_at};
 ghost use Rattle.snapshot.specs.Layouts.{name_head};
 
 use crate::ids::Name;
 use crate::kind::text_words;
+use crate::reading::payload;
 use crate::table::name_head;
-use crate::words::payload;
 
 /// The words after a name's head that hold its text.
 pub fn text_at(words: &[u32], head: usize) -> &[u32]

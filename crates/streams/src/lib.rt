@@ -1,9 +1,12 @@
-//! Standard input and output, with failures told apart from ends.
+//! Standard input and output for the programs, and lists of test cases as text.
+//! Uses no other crate.
 #![tactic(auto)]
 
 ghost use Rattle.std.specs.Prelude.{◌<◌, length, take, IfOk, OnOk, MatchResult};
 ghost use Rattle.std.specs.Counts.{IsPrefixLen};
 ghost use Rattle.std.specs.Io.KnownBytes.{Appends, Consumes, IsAtEnd};
+
+pub mod case_text;
 
 use std::io;
 use std::io::{Read, Write};

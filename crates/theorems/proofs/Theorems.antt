@@ -12,37 +12,37 @@ use Rattle.snapshot.specs.Records.{Snapshot, Scope}
 use Rattle.check_rules.specs.Verdict.{refuse, accept, verdict}
 use Rattle.accept.specs.Valid.{Valid, Each}
 use Rattle.accept.proofs.Valid as valid
-use Rattle.tree_rules.specs.Visibility.{is_visible_from}
+use Rattle.module_tree.specs.rules.Visibility.{is_visible_from}
 use Rattle.module_tree.specs.Privacy.{Privacy}
 use Rattle.module_tree.specs.Differs.{Exception, Known, Answers}
 use Rattle.module_tree.proofs.Private as private
 use Rattle.hir_def.specs.Items.{same_item}
 use Rattle.hir_def.specs.declared.Item.{Item}
 use Rattle.hir_def.proofs.Plain.{plainly}
-use Rattle.find_path.specs.declared.FindPathCtx.{FindPathCtx}
-use Rattle.find_path.specs.declared.Query.{Query}
-use Rattle.find_path.specs.declared.Question.{Question}
-use Rattle.find_path.specs.Rules.{bit}
-use Rattle.find_path.specs.Report.{searched_listing, refused, report_of}
-use Rattle.search_laws.specs.Fuels.{IsRefused, HasPath, Bounded, NamesKnown, Small, TellsFirst, Compared}
-use Rattle.find_path.specs.Report.{report_at}
-use Rattle.search_laws.specs.Limits.{with_limit, Whole}
-use Rattle.search_laws.specs.Routes.{Routed, Shown, route_steps}
-use Rattle.search_laws.specs.Reading.{with_reading, ReadAs}
-use Rattle.search_laws.specs.Visited.{OneSet, Enough}
-use Rattle.search_laws.proofs.Fuels as fuels
-use Rattle.search_laws.proofs.Limits as limits
-use Rattle.search_laws.proofs.Routes as routes
-use Rattle.search_laws.proofs.Reading as reading
-use Rattle.search_laws.proofs.Reports as reports
-use Rattle.search_laws.proofs.Known as known
-use Rattle.search_laws.proofs.Plain as plain
-use Rattle.search_laws.proofs.Visited as visited
-use Rattle.reach_parts.specs.declared.Viewer.{Viewer}
-use Rattle.reach_parts.specs.Reach.{reach_of, distinct, item_in, total}
-use Rattle.reach_parts.proofs.Laws as laws
-use Rattle.reach_parts.proofs.Distinct as apart
-use Rattle.reach_parts.proofs.Distinct.{Apart}
+use Rattle.find_path_spec.specs.declared.FindPathCtx.{FindPathCtx}
+use Rattle.find_path_spec.specs.declared.Query.{Query}
+use Rattle.find_path_spec.specs.declared.Question.{Question}
+use Rattle.find_path_spec.specs.Rules.{bit}
+use Rattle.find_path_spec.specs.Report.{searched_listing, refused, report_of}
+use Rattle.find_path_spec.specs.laws.Fuels.{IsRefused, HasPath, Bounded, NamesKnown, Small, TellsFirst, Compared}
+use Rattle.find_path_spec.specs.Report.{report_at}
+use Rattle.find_path_spec.specs.laws.Limits.{with_limit, Whole}
+use Rattle.find_path_spec.specs.laws.Routes.{Routed, Shown, route_steps}
+use Rattle.find_path_spec.specs.laws.Reading.{with_reading, ReadAs}
+use Rattle.find_path_spec.specs.laws.Visited.{OneSet, Enough}
+use Rattle.find_path_spec.proofs.laws.Fuels as fuels
+use Rattle.find_path_spec.proofs.laws.Limits as limits
+use Rattle.find_path_spec.proofs.laws.Routes as routes
+use Rattle.find_path_spec.proofs.laws.Reading as reading
+use Rattle.find_path_spec.proofs.laws.Reports as reports
+use Rattle.find_path_spec.proofs.laws.Known as known
+use Rattle.find_path_spec.proofs.laws.Plain as plain
+use Rattle.find_path_spec.proofs.laws.Visited as visited
+use Rattle.reach.specs.declared.parts.Viewer.{Viewer}
+use Rattle.reach.specs.parts.Reach.{reach_of, distinct, item_in, total}
+use Rattle.reach.proofs.parts.Laws as laws
+use Rattle.reach.proofs.parts.Distinct as apart
+use Rattle.reach.proofs.parts.Distinct.{Apart}
 use Rattle.reports.specs.Written.{report_words, report_numbers}
 use Rattle.reports.proofs.Exact as exact
 use Rattle.nameable.specs.Paths.{Path, names_in, Names, Nameable}
@@ -51,28 +51,28 @@ use Rattle.nameable.specs.Right.{Longer, Right}
 use Rattle.nameable.proofs.Opinion as opinion
 use Rattle.edit_rules.specs.Edits.{edited, Operation, adding, removing, edit_of}
 use Rattle.edit_rules.specs.Written.{snapshot_words, words_with}
-use Rattle.scope_edits.proofs.Written as written
+use Rattle.edit_rules.proofs.scope_edits.Written as written
 use Rattle.answer.specs.Answers.{zeros}
 use Rattle.edits.specs.Runs.{Held, own_words, after_run, snapshot_after, entries_after}
 use Rattle.edits.proofs.Fresh as fresh
 use Rattle.edits.proofs.Afresh as afresh
-use Rattle.window_rules.specs.States.{waits, asked_by, place_fault, after_place}
+use Rattle.windows.specs.rules.States.{waits, asked_by, place_fault, after_place}
 use Rattle.windows.specs.Windows.{turn_of}
 use Rattle.windows.specs.Runs as windows
 use Rattle.windows.specs.Runs.{empty_state, ServedWithin, turns}
 use Rattle.windows.proofs.Served as served
 use Rattle.import_rules.specs.Collect.{collected}
-use Rattle.import_words.specs.Words as lists
-use Rattle.import_words.proofs.Built as built
-use Rattle.join_words.specs.Joined.{first_numbers, second_numbers, question_to, joined_as, join_of}
+use Rattle.import_rules.specs.import_words.Words as lists
+use Rattle.import_rules.proofs.import_words.Built as built
+use Rattle.join_rules.specs.Joined.{first_numbers, second_numbers, question_to, joined_as, join_of}
 use Rattle.embedding.specs.Kept.{Answered, Kept}
 use Rattle.embedding.proofs.Stays as stays
-use Rattle.find_path.specs.Line.{bytes_of, line_of}
+use Rattle.find_path_spec.specs.Line.{bytes_of, line_of}
 use Rattle.printer.specs.Printed.{printed}
 use Rattle.printer.proofs.Whole as whole
-use Rattle.joined_lines.specs.Inputs.{Writable, Asks, Room}
-use Rattle.joined_lines.proofs.Asked as asked
-use Rattle.joined_lines.proofs.Joined as printing
+use Rattle.embedding.specs.joined_lines.Inputs.{Writable, Asks, Room}
+use Rattle.embedding.proofs.joined_lines.Asked as asked
+use Rattle.embedding.proofs.joined_lines.Joined as printing
 
 -- The snapshot
 

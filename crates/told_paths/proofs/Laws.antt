@@ -1,5 +1,5 @@
 -- Laws of paths that are told.
-use Rattle.arrivals.specs.declared.LastStep.{LastStep}
+use Rattle.told_paths.specs.declared.arrivals.LastStep.{LastStep}
 use Prim.Native.Nat.{ℕ, suc, ◌+◌, ◌≤◌, ◌<◌, ◌^◌}
 use mathlib.Core.Path.{◌≡◌, refl, sym, ap, ap₂, subst, ◌∙◌}
 use mathlib.Core.List.{List, [], ◌∷◌, ◌++◌, append_assoc}
@@ -17,7 +17,7 @@ use Rattle.nameable.specs.Paths.{Path, keyword, absolute, plain, into, names_in,
 use Rattle.nameable.specs.Breadth.{names_limit, shorter}
 use Rattle.nameable.proofs.Lists.{none_some}
 use Rattle.any_path.specs.Rows.{path_from, path_at}
-use Rattle.arrivals.specs.Steps.{Steps, LeadsTo}
+use Rattle.told_paths.specs.arrivals.Steps.{Steps, LeadsTo}
 use Rattle.told_paths.specs.declared.ToldPath.{ToldPath}
 use Rattle.told_paths.specs.Tells.{step_link, kind_of, supers_of, padded, told_long, tell}
 

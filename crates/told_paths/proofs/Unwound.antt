@@ -10,7 +10,7 @@ use Rattle.nameable.specs.Paths.{Path, keyword, absolute, plain, into, names_in,
 use Rattle.nameable.specs.Breadth.{names_limit}
 use Rattle.any_path.specs.Rows.{link_at, name_at, keyword_from, path_from, path_at}
 use Rattle.any_path.proofs.Taken.{link_into}
-use Rattle.arrivals.proofs.Steps.{row_path}
+use Rattle.told_paths.proofs.arrivals.Steps.{row_path}
 use Rattle.told_paths.specs.Tells.{keyword_kind, kind_of, keyword_supers, supers_of, padded, tell}
 use Rattle.told_paths.proofs.Laws.{length_names, tell_made}
 

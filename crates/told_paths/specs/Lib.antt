@@ -1,1 +1,3 @@
 pub mod Tells
+pub mod arrivals
+pub mod told_routes

@@ -1,5 +1,5 @@
 -- A path written out: how it begins, and its names.
-use Rattle.arrivals.specs.declared.LastStep.{LastStep}
+use Rattle.told_paths.specs.declared.arrivals.LastStep.{LastStep}
 use Rattle.std.specs.Prelude.{ℕ, zero, suc, List, ◌++◌, true, false, leb, length, drop, replicate}
 use Rattle.std.specs.Prelude.{Option, None, Some}
 use Rattle.snapshot.specs.declared.ids.PathKind.{PathKind}

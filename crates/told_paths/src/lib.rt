@@ -1,7 +1,11 @@
-//! A path read out of the rows: how it begins, and its names.
+//! What a run of `any_path` found, told as a path with the places of the records by which it is read.
+//! Uses `any_path` and the reading of a path.
 #![tactic(auto)]
 
+pub mod arrivals;
 pub mod paths;
+pub mod shortest_paths;
+pub mod told_routes;
 
 use snapshot::ids::PathKind;
 

@@ -7,15 +7,15 @@ ghost use Rattle.snapshot.specs.Records.{Snapshot};
 ghost use Rattle.nameable.specs.Paths.{Path, into, names_in};
 ghost use Rattle.nameable.specs.Breadth.{names_limit, shorter as shorter_of};
 ghost use Rattle.any_path.specs.Rows.{keyword_from, path_from, path_at, link_at};
-ghost use Rattle.arrivals.specs.Steps.{LeadsTo};
+ghost use Rattle.told_paths.specs.arrivals.Steps.{LeadsTo};
 ghost use Rattle.told_paths.specs.Tells.{step_link, keyword_kind, keyword_supers, told_long, tell as tell_of};
 ghost use Rattle.told_paths.specs.declared.ToldPath.{ToldPath};
 
 use crate::ToldPath;
+use crate::arrivals::LastStep;
 use any_path::rows::Row;
-use arrivals::LastStep;
 use snapshot::ids::PathKind;
-use snapshot::words::word;
+use snapshot::reading::word;
 
 /// Names of a path.
 pub struct NameCount;

@@ -6,11 +6,11 @@ use mathlib.Core.List.{List}
 use borrow.Author.Tests.{eq-eqb, ne_eqb}
 use lib.Dec.{eqb}
 use lib.ListN.{length}
-use Rattle.find_path.specs.declared.Question.{Question}
-use Rattle.find_path.specs.declared.Report.{Report}
-use Rattle.find_path.specs.Report.{report_of}
+use Rattle.find_path_spec.specs.declared.Question.{Question}
+use Rattle.find_path_spec.specs.declared.Report.{Report}
+use Rattle.find_path_spec.specs.Report.{report_of}
 use Rattle.answer.specs.Answers.{Answers}
-use Rattle.window_rules.specs.States.{asked_by, waiting, with_row, served, place_fault, placed_unless, after_place, after_serving, after_turn}
+use Rattle.windows.specs.rules.States.{asked_by, waiting, with_row, served, place_fault, placed_unless, after_place, after_serving, after_turn}
 use Rattle.windows.specs.Windows.{Placed, idle_turn, serving_turn, turn_of, area_turned, Turned}
 
 -- a question placed

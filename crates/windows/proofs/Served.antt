@@ -9,11 +9,11 @@ use borrow.Author.Tests.{eqb-true, eqb-false, eq-eqb}
 use lib.Dec.{eqb}
 use lib.ListN.{length, get_or, take}
 use lib.Seq.{take-nil}
-use Rattle.find_path.specs.declared.Question.{Question}
-use Rattle.window_rules.specs.States.{row_of, waits, asked_by, waiting, place_fault, after_place, first_from, served, after_serving, after_turn}
+use Rattle.find_path_spec.specs.declared.Question.{Question}
+use Rattle.windows.specs.rules.States.{row_of, waits, asked_by, waiting, place_fault, after_place, first_from, served, after_serving, after_turn}
 use Rattle.windows.specs.Windows.{Turn, idle_turn, serving_turn, turn_of}
 use Rattle.windows.specs.Runs.{empty_state, Operation, placing, turning, after_one, after_run, turns, serving_in, servings, ServedWithin}
-use Rattle.window_state.proofs.Laws.{served_start, first_here, first_next, fault_room}
+use Rattle.windows.proofs.state.Laws.{served_start, first_here, first_next, fault_room}
 use Rattle.windows.proofs.Kept.{asking, row_waits, row_asked, placed_row, place_puts, turn_serves, place_length, place_next, place_row}
 use Rattle.windows.proofs.Kept.{serving_next, serving_row, turn_length}
 

@@ -7,12 +7,12 @@ use lib.Dec.{eqb}
 use lib.ListN.{replicate}
 use Rattle.snapshot.specs.Lists.{all, eq_list}
 use Rattle.check_rules.specs.Worked.{worked}
-use Rattle.find_path.specs.declared.Question.{Question}
-use Rattle.find_path.specs.Report.{flag}
-use Rattle.find_path.proofs.Worked.{passes}
+use Rattle.find_path_spec.specs.declared.Question.{Question}
+use Rattle.find_path_spec.specs.Report.{flag}
+use Rattle.find_path_spec.proofs.Worked.{passes}
 use Rattle.reports.specs.Written.{report_words}
-use Rattle.window_rules.specs.States.{with_row, waits, asked_by, waiting, place_fault, placed_unless, after_place, first_from, served, after_serving}
-use Rattle.window_rules.specs.States.{after_turn}
+use Rattle.windows.specs.rules.States.{with_row, waits, asked_by, waiting, place_fault, placed_unless, after_place, first_from, served, after_serving}
+use Rattle.windows.specs.rules.States.{after_turn}
 use Rattle.windows.specs.Windows.{Turn, idle_turn, serving_turn, turn_of}
 use Rattle.windows.specs.Runs.{empty_state, Operation, placing, turning, after_one, after_run}
 

@@ -1,2 +1,4 @@
 pub mod Windows
 pub mod Runs
+pub mod rules
+pub mod state

@@ -1,7 +1,7 @@
 -- Runs of the windows: questions placed, and turns.
 use Rattle.std.specs.Prelude.{ℕ, suc, ◌<◌, ◌≡◌, List, [], ◌∷◌, ◌++◌, get_or, take, replicate}
-use Rattle.find_path.specs.declared.Question.{Question}
-use Rattle.window_rules.specs.States.{row_of, asked_by, after_place, served, after_turn}
+use Rattle.find_path_spec.specs.declared.Question.{Question}
+use Rattle.windows.specs.rules.States.{row_of, asked_by, after_place, served, after_turn}
 
 -- no question waits, and the first turn counts from window 0
 unfoldable pub empty_state : List ℕ

@@ -1,13 +1,13 @@
 -- What placing a question and a turn promise.
 use Rattle.std.specs.Prelude.{ℕ, ◌≡◌, Bool, true, false, List, eqb, length, Result, Ok, Err, Option, None, Some}
 use Rattle.snapshot.specs.declared.refusal.Refusal.{Refusal}
-use Rattle.window_state.specs.declared.rows.Windows.{Windows}
-use Rattle.find_path.specs.declared.Question.{Question}
-use Rattle.find_path.specs.declared.Report.{Report}
-use Rattle.find_path.specs.Report.{refused, report_of}
+use Rattle.windows.specs.declared.state.rows.Windows.{Windows}
+use Rattle.find_path_spec.specs.declared.Question.{Question}
+use Rattle.find_path_spec.specs.declared.Report.{Report}
+use Rattle.find_path_spec.specs.Report.{refused, report_of}
 use Rattle.answer.specs.Answers.{area_after}
 use Rattle.windows.specs.declared.turns.Served.{Served}
-use Rattle.window_rules.specs.States.{place_fault, after_place, asked_by, served, after_turn}
+use Rattle.windows.specs.rules.States.{place_fault, after_place, asked_by, served, after_turn}
 
 -- S₀ is the state before the call, S after it; r is the number of the refusal
 pub record Placed (S₀ : List ℕ) (w : ℕ) (q : Question) (S : List ℕ) (r : ℕ) : Type 0 where

@@ -1,8 +1,8 @@
 //! What a turn gives.
 
-use find_path::Report;
-use window_state::rows::Windows;
-use window_state::window::Window;
+use crate::state::rows::Windows;
+use crate::state::window::Window;
+use find_path_spec::Report;
 
 /// The window that a turn served, and the report of its question.
 #[derive(Clone, Copy)]

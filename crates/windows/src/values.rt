@@ -1,15 +1,15 @@
 //! Questions placed and turns, on a state by value.
 ghost use Rattle.snapshot.specs.Refusals.{fault_number};
-ghost use Rattle.questions.specs.Questions.{question_of};
-ghost use Rattle.window_state.specs.Words.{words_of};
+ghost use Rattle.reports.specs.questions.Questions.{question_of};
+ghost use Rattle.windows.specs.state.Words.{words_of};
 ghost use Rattle.windows.specs.Windows.{Placed, Turned, left, told};
 
+use crate::state::rows::{Windows, next_waiting};
+use crate::state::serve::{after_serving, asked_by, free_window, with_question};
 use crate::turns::{Served, Turning};
-use answer::answer::find_path;
+use answer::find_path;
 use snapshot::kind::Size;
 use snapshot::refusal::Refusal;
-use window_state::rows::{Windows, next_waiting};
-use window_state::serve::{after_serving, asked_by, free_window, with_question};
 
 /// The state with a question placed, or why it is refused.
 pub fn placed(

@@ -16,7 +16,7 @@ pub const WORKED: [u32; 37] = [
     1, 0x80000001, 1, 0, 0x80000004, 1, 0, 0x90000000, 0, 0, 0, 0, 0, 1, 0, 0x90000001, 1, 1, 1, 0, 0, 1, 0,
 ];
 
-/// The words of a line of `crates/refusals/stdin`, of which `crates/case_text` says how it is written.
+/// The words of a line of `crates/refusals/stdin`, of which `crates/streams` says how it is written.
 pub fn read_words(text: &str) -> Vec<u32> {
     let mut words = Vec::new();
     for part in text.split_ascii_whitespace() {

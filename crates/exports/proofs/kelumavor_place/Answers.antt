@@ -1,5 +1,5 @@
 use mathlib.Core.Path.{sym, subst⁻¹}
-use Rattle.questions.specs.Questions.{question_of}
+use Rattle.reports.specs.questions.Questions.{question_of}
 use Rattle.windows.specs.Windows.{Placed}
 use Rattle.exports.proofs.Serving.{placed_words}
 use Rattle.exports.proofs.kelumavor_place.Goals as goal

@@ -3,8 +3,8 @@ use mathlib.Core.List.{◌++◌}
 use lib.Seq.{length-take-le}
 use Rattle.snapshot.specs.Limits.{area_limit}
 use Rattle.printing.proofs.Laws.{put_as}
-use Rattle.find_path.specs.Report.{refused}
-use Rattle.find_path.specs.Line.{bytes_of, line_in}
+use Rattle.find_path_spec.specs.Report.{refused}
+use Rattle.find_path_spec.specs.Line.{bytes_of, line_in}
 use Rattle.answer.proofs.Lined.{lined_none, lined_small, lined_large}
 use Rattle.answer.proofs.lines.find_line.Goals as goal
 

@@ -1,5 +1,5 @@
 use mathlib.Core.Path.{ap, ◌∙◌}
-use Rattle.checked.proofs.Laws.{checks_judged}
+use Rattle.answer.proofs.checked.Laws.{checks_judged}
 use Rattle.answer.specs.Answers.{zeros}
 use Rattle.answer.proofs.lines.line_within.Goals as goal
 

@@ -1,6 +1,6 @@
 use Prim.Native.Nat.{ℕ, ◌<◌}
 use mathlib.Core.Path.{◌≡◌}
-use Rattle.tree_rules.specs.Privately.{module_around}
+use Rattle.module_tree.specs.rules.Privately.{module_around}
 use Rattle.any_path.proofs.Begins.{Climbing}
 use Rattle.snapshot.specs.Laid.{snap_by}
 use Rattle.any_path.proofs.begin.offer_supers.Given as goal

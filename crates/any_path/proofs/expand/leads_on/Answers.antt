@@ -2,7 +2,7 @@ use mathlib.Core.Path.{sym, ◌∙◌}
 use Rattle.snapshot.specs.Records.{scope_at}
 use Rattle.hir_def.specs.ItemScope.{is_module_entry}
 use Rattle.nameable.specs.Seen.{seen}
-use Rattle.seen_entries.proofs.Laws.{and_so, and_no}
+use Rattle.any_path.proofs.seen_entries.Laws.{and_so, and_no}
 use Rattle.accept.specs.Opened.{snap_in}
 use Rattle.any_path.proofs.expand.leads_on.Goals as goal
 

@@ -3,7 +3,7 @@ use lib.Dec.{eqb}
 use Rattle.snapshot.specs.Sizes.{extern_size}
 use Rattle.snapshot.specs.Records.{Extern, extern_at}
 use Rattle.snapshot.specs.Layouts.{extern_base}
-use Rattle.tree_rules.specs.Modules.{crate_of}
+use Rattle.module_tree.specs.rules.Modules.{crate_of}
 use Rattle.nameable.specs.Paths.{extern_named}
 use Rattle.any_path.proofs.Plains.{Trying}
 use Rattle.snapshot.specs.Laid.{snap_by}

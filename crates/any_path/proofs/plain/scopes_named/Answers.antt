@@ -2,7 +2,7 @@ use Rattle.std.proofs.Common.{rules}
 use Rattle.hir_def.proofs.Searches.{step_less, outwards}
 use Rattle.nameable.specs.Paths.{scopes_from}
 use Rattle.nameable.specs.Queue.{seen_named}
-use Rattle.seen_entries.proofs.Laws.{step_down}
+use Rattle.any_path.proofs.seen_entries.Laws.{step_down}
 use Rattle.any_path.specs.Plain.{scopes_named}
 use Rattle.accept.specs.Opened.{snap_in}
 use Rattle.any_path.proofs.plain.scopes_named.Goals as goal

@@ -1,6 +1,6 @@
 use Prim.Native.Nat.{ℕ}
 use mathlib.Core.Path.{◌≡◌}
-use Rattle.tree_rules.specs.Modules.{crate_of}
+use Rattle.module_tree.specs.rules.Modules.{crate_of}
 use Rattle.any_path.proofs.Externs.{Naming}
 use Rattle.snapshot.specs.Laid.{snap_by}
 use Rattle.any_path.proofs.singles.offer_absolutes.Given as goal

@@ -1,6 +1,6 @@
 use Rattle.std.proofs.Common.{sym, ap, ◌∙◌}
 use Rattle.printing.proofs.Laws.{put_as}
-use Rattle.wording.specs.Text.{refusal}
+use Rattle.printing.specs.wording.Text.{refusal}
 use Rattle.check_snapshot.proofs.Laws.{form_same, text_asked, text_other, text_unasked}
 use Rattle.check_snapshot.proofs.report.put_refused.Goals as goal
 use Rattle.check_snapshot.proofs.report.put_refused.Goals.{else-eq-via-then-eq+else-asks_at, else-eq-via-else-eq}

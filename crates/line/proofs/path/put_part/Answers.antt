@@ -3,7 +3,7 @@ use mathlib.Core.List.{◌++◌}
 use native.Mathlib.Omega.{arith}
 use Rattle.printing.proofs.Laws.{put_as, put_two}
 use Rattle.line.specs.Joints.{joint_if}
-use Rattle.find_path.specs.Line.{written_of}
+use Rattle.find_path_spec.specs.Line.{written_of}
 use Rattle.accept.specs.Opened.{snap_in}
 use Rattle.line.proofs.path.put_part.Goals as goal
 

@@ -2,7 +2,7 @@ use mathlib.Core.Path.{refl, ◌∙◌}
 use native.Mathlib.Omega.{arith}
 use Rattle.line.proofs.Laws.{tail_none, tail_next, path_done_all}
 use Rattle.printing.proofs.Laws.{put_as, put_two, put_none}
-use Rattle.find_path.specs.Line.{written_of}
+use Rattle.find_path_spec.specs.Line.{written_of}
 use Rattle.accept.specs.Opened.{snap_in}
 use Rattle.line.proofs.path.put_path.Goals as goal
 

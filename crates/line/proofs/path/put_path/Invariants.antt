@@ -2,7 +2,7 @@ use Prim.Native.Nat.{◌+◌, ◌*◌, ◌≤◌}
 use mathlib.Core.Path.{◌≡◌}
 use lib.ListN.{length}
 use Rattle.line.proofs.Laws.{tail_to}
-use Rattle.find_path.specs.Line.{written_of}
+use Rattle.find_path_spec.specs.Line.{written_of}
 use Rattle.printing.specs.Output.{Put}
 use Rattle.accept.specs.Opened.{snap_in}
 use Rattle.line.proofs.path.put_path.Given as goal

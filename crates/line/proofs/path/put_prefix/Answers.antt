@@ -1,7 +1,7 @@
 use mathlib.Core.Path.{sym, ap}
 use native.Mathlib.Omega.{arith}
 use Rattle.line.proofs.Laws.{no_prefix}
-use Rattle.find_path.specs.Line.{bytes_of, joined, prefix_parts}
+use Rattle.find_path_spec.specs.Line.{bytes_of, joined, prefix_parts}
 use Rattle.printing.proofs.Laws.{put_as, put_none}
 use Rattle.line.proofs.path.put_prefix.Goals as goal
 

@@ -5,7 +5,7 @@ use lib.ListN.{length, take, length-set}
 use Rattle.printing.specs.Output.{Put}
 use Rattle.line.proofs.Laws.{length_unpacked}
 use Rattle.printing.proofs.Laws.{put_start, put_next}
-use Rattle.find_path.specs.Line.{unpacked}
+use Rattle.find_path_spec.specs.Line.{unpacked}
 use Rattle.line.proofs.text.put_text.Goals as goal
 
 pub loop-i-init : goal.loop-i-init

@@ -2,7 +2,7 @@ use Prim.Native.Nat.{◌+◌, ◌≤◌}
 use mathlib.Core.Path.{◌≡◌}
 use lib.ListN.{length, take}
 use Rattle.printing.specs.Output.{Put}
-use Rattle.find_path.specs.Line.{unpacked}
+use Rattle.find_path_spec.specs.Line.{unpacked}
 use Rattle.line.proofs.text.put_text.Given as goal
 
 abbrev pub invariant-loop-i : goal.invariant-loop-i

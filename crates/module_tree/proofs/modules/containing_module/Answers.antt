@@ -1,5 +1,5 @@
 use Rattle.std.proofs.Common.{rules}
-use Rattle.tree_rules.specs.Modules.{containing}
+use Rattle.module_tree.specs.rules.Modules.{containing}
 use Rattle.module_tree.proofs.Reading.{or_another}
 use Rattle.module_tree.proofs.modules.containing_module.Goals as goal
 

@@ -1,6 +1,6 @@
 use mathlib.Core.Path.{ap, ◌∙◌}
 use Rattle.snapshot.specs.Layouts.{snap_of}
-use Rattle.tree_rules.specs.Modules.{root_of, own_map, crate_root}
+use Rattle.module_tree.specs.rules.Modules.{root_of, own_map, crate_root}
 use Rattle.module_tree.proofs.Reading.{crate_there}
 use Rattle.module_tree.proofs.modules.crate_root.Goals as goal
 

@@ -1,7 +1,7 @@
 use Prim.Native.Nat.{◌<◌}
 use mathlib.Core.Path.{◌≡◌}
 use Rattle.snapshot.specs.Layouts.{snap_of}
-use Rattle.tree_rules.specs.Visibility.{climb}
+use Rattle.module_tree.specs.rules.Visibility.{climb}
 use Rattle.module_tree.proofs.visibility.climb.Given as goal
 
 abbrev pub invariant-loop-t : goal.invariant-loop-t

@@ -1,8 +1,8 @@
 use mathlib.Core.Path.{sym, ap, ◌∙◌}
 use borrow.Author.Tests.{eqb-true, eqb-false, not-true, not-false}
 use Rattle.snapshot.specs.Layouts.{snap_of}
-use Rattle.tree_rules.specs.Modules.{containing}
-use Rattle.tree_rules.specs.Visibility.{met, climb}
+use Rattle.module_tree.specs.rules.Modules.{containing}
+use Rattle.module_tree.specs.rules.Visibility.{met, climb}
 use Rattle.module_tree.proofs.Climbs.{in_same, in_other, in_walk}
 use Rattle.module_tree.proofs.visibility.in_module.Goals as goal
 

@@ -4,7 +4,7 @@ use lib.Dec.{eqb}
 use Rattle.snapshot.specs.Layouts.{snap_of}
 use Rattle.snapshot.specs.declared.ids.Visibility.{Visibility}
 use Rattle.snapshot.specs.Visibilities.{visibility_kind, visibility_number}
-use Rattle.tree_rules.specs.Visibility.{is_visible_from}
+use Rattle.module_tree.specs.rules.Visibility.{is_visible_from}
 use Rattle.module_tree.proofs.Climbs.{visible_public, visible_crate}
 use Rattle.module_tree.proofs.visibility.is_visible_from.Goals as goal
 

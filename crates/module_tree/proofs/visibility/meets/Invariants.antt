@@ -1,8 +1,8 @@
 use Prim.Native.Nat.{◌<◌}
 use mathlib.Core.Path.{◌≡◌}
 use Rattle.snapshot.specs.Layouts.{snap_of}
-use Rattle.tree_rules.specs.Modules.{containing}
-use Rattle.tree_rules.specs.Visibility.{met}
+use Rattle.module_tree.specs.rules.Modules.{containing}
+use Rattle.module_tree.specs.rules.Visibility.{met}
 use Rattle.module_tree.proofs.visibility.meets.Given as goal
 
 abbrev pub invariant-loop-v : goal.invariant-loop-v

@@ -1,6 +1,6 @@
 use Rattle.std.proofs.Common.{[], ◌∷◌, refl, sym, arith, of_calls}
 use Rattle.printer.specs.Printed.{end, turn}
-use Rattle.checked.proofs.Laws.{checks_judged}
+use Rattle.answer.proofs.checked.Laws.{checks_judged}
 use Rattle.printer.proofs.Laws.{next_more}
 use Rattle.printer.proofs.each.each_answer.Goals as goal
 

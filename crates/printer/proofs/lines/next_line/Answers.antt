@@ -1,8 +1,8 @@
 use mathlib.Core.Path.{ap}
 use mathlib.Core.List.{◌++◌}
 use Rattle.printing.proofs.Laws.{put_as}
-use Rattle.find_path.specs.Report.{refused}
-use Rattle.find_path.specs.Line.{bytes_of, line_in}
+use Rattle.find_path_spec.specs.Report.{refused}
+use Rattle.find_path_spec.specs.Line.{bytes_of, line_in}
 use Rattle.printer.proofs.Laws.{turn_reach, turn_refused, turn_line, turn_route}
 use Rattle.printer.proofs.lines.next_line.Goals as goal
 

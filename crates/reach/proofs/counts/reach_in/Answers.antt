@@ -2,8 +2,8 @@ use Prim.Native.Nat.{◌+◌}
 use mathlib.Core.Path.{sym, ap, subst, ◌∙◌}
 use native.Mathlib.Omega.{arith}
 use Rattle.std.specs.Prelude.{Ok}
-use Rattle.search_laws.proofs.Tables.{same_reads}
-use Rattle.reach_parts.specs.Reach.{told}
+use Rattle.find_path_spec.proofs.laws.Tables.{same_reads}
+use Rattle.reach.specs.parts.Reach.{told}
 use Rattle.reach.proofs.Laws.{Reaching, reaching_start, reaching_met, reaching_new, reaching_done, entry_fits, report_fits}
 use Rattle.reach.proofs.Laws.{report_entry}
 use Rattle.reach.proofs.counts.reach_in.Goals as goal

@@ -1,7 +1,7 @@
 use Prim.Native.Nat.{◌<◌, ◌≤◌}
 use mathlib.Core.Path.{sym, ap₂, subst, ◌∙◌}
-use Rattle.find_path.specs.Report.{reported, searched}
-use Rattle.reach_parts.specs.Reach.{query_for, report_for}
+use Rattle.find_path_spec.specs.Report.{reported, searched}
+use Rattle.reach.specs.parts.Reach.{query_for, report_for}
 use Rattle.snapshot.specs.Laid.{snap_by}
 use Rattle.reach.proofs.counts.report_for.Goals as goal
 

@@ -1,8 +1,8 @@
 use mathlib.Core.Path.{ap}
 use mathlib.Core.List.{◌++◌}
 use Rattle.printing.proofs.Laws.{put_as}
-use Rattle.find_path.specs.Line.{bytes_of}
-use Rattle.reach_parts.specs.Reach.{reach_line}
+use Rattle.find_path_spec.specs.Line.{bytes_of}
+use Rattle.reach.specs.parts.Reach.{reach_line}
 use Rattle.reach.proofs.lines.reach_line_on.Goals as goal
 
 pub returns : goal.returns

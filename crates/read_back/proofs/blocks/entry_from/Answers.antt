@@ -1,7 +1,7 @@
 use Rattle.std.proofs.Common.{rules}
 use Rattle.hir_def.specs.ItemScope.{get}
 use Rattle.hir_def.proofs.Searches.{step_less, outwards}
-use Rattle.readings.specs.Reads.{scopes_from, entry_from}
+use Rattle.read_back.specs.readings.Reads.{scopes_from, entry_from}
 use Rattle.read_back.proofs.Outward.{outward_down}
 use Rattle.accept.specs.Opened.{snap_in}
 use Rattle.read_back.proofs.blocks.entry_from.Goals as goal

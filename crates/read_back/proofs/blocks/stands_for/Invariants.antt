@@ -1,6 +1,6 @@
 use Prim.Native.Nat.{◌<◌}
 use mathlib.Core.Path.{◌≡◌}
-use Rattle.readings.specs.Reads.{stands_for}
+use Rattle.read_back.specs.readings.Reads.{stands_for}
 use Rattle.accept.specs.Opened.{snap_in}
 use Rattle.read_back.proofs.blocks.stands_for.Given as goal
 

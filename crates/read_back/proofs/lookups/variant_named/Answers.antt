@@ -1,6 +1,6 @@
 use Rattle.std.proofs.Common.{rules}
 use Rattle.snapshot.specs.Records.{member_at}
-use Rattle.readings.specs.Reads.{is_variant_named, variant_named}
+use Rattle.read_back.specs.readings.Reads.{is_variant_named, variant_named}
 use Rattle.hir_def.proofs.Searches.{first_in}
 use Rattle.read_back.proofs.lookups.variant_named.Goals as goal
 

@@ -1,8 +1,8 @@
 use mathlib.Core.Path.{ap, ◌∙◌}
 use Rattle.snapshot.specs.Records.{scope_at}
 use Rattle.snapshot.specs.Visibilities.{visibility_kind, visibility_number}
-use Rattle.tree_rules.proofs.Visible.{visible_by, number_within}
-use Rattle.tree_rules.specs.Visibility.{is_visible_from}
+use Rattle.module_tree.proofs.rules.Visible.{visible_by, number_within}
+use Rattle.module_tree.specs.rules.Visibility.{is_visible_from}
 use Rattle.read_back.proofs.Cases.{meaning_seen, meaning_hidden}
 use Rattle.accept.specs.Opened.{snap_in}
 use Rattle.read_back.proofs.names.meaning.Goals as goal

@@ -1,5 +1,5 @@
 use mathlib.Core.Path.{◌∙◌}
-use Rattle.readings.specs.Reads.{later_name}
+use Rattle.read_back.specs.readings.Reads.{later_name}
 use Rattle.read_back.proofs.Cases.{after_none, after_some}
 use Rattle.accept.specs.Opened.{snap_in}
 use Rattle.read_back.proofs.names.next_name.Goals as goal

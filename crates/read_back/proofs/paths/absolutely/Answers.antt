@@ -3,7 +3,7 @@ use native.Mathlib.Omega.{arith}
 use lib.ListN.{get_or, length}
 use Rattle.std.proofs.lemmas.List.{take_all}
 use Rattle.accept.specs.Opened.{snap_in}
-use Rattle.readings.specs.Reads.{absolutely}
+use Rattle.read_back.specs.readings.Reads.{absolutely}
 use Rattle.read_back.proofs.Cases.{absolute_first, absolute_none}
 use Rattle.read_back.proofs.paths.absolutely.Goals as goal
 

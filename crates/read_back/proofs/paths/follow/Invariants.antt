@@ -3,7 +3,7 @@ use Prim.Native.Nat.{◌-◌}
 use mathlib.Core.Path.{◌≡◌}
 use lib.ListN.{get_or, length}
 use Rattle.snapshot.specs.Lists.{rows}
-use Rattle.readings.specs.Reads.{follow}
+use Rattle.read_back.specs.readings.Reads.{follow}
 use Rattle.accept.specs.Opened.{snap_in}
 use Rattle.read_back.proofs.paths.follow.Given as goal
 

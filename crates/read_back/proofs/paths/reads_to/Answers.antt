@@ -2,7 +2,7 @@ use mathlib.Core.Path.{ap, ◌∙◌}
 use Rattle.std.specs.Prelude.{Some}
 use Rattle.hir_def.specs.Items.{module_item}
 use Rattle.read_back.proofs.Cases.{all_later, reads_by}
-use Rattle.readings.specs.Reads.{follow}
+use Rattle.read_back.specs.readings.Reads.{follow}
 use Rattle.accept.specs.Opened.{snap_in}
 use Rattle.read_back.proofs.paths.reads_to.Goals as goal
 

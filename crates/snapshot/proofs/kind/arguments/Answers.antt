@@ -1,5 +1,5 @@
 use mathlib.Core.Path.{ap, sym, ◌∙◌}
-use Rattle.reading.specs.Words.{words_of}
+use Rattle.snapshot.specs.reading.Words.{words_of}
 use Rattle.snapshot.specs.Sizes.{argument_table}
 use lib.ListN.{get_or}
 use Rattle.snapshot.proofs.Laws.{arguments_name, arguments_fixed}

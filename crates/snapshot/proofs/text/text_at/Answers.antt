@@ -1,5 +1,5 @@
 use mathlib.Core.Path.{ap, ◌∙◌}
-use Rattle.reading.specs.Words.{words_of}
+use Rattle.snapshot.specs.reading.Words.{words_of}
 use Rattle.snapshot.proofs.Laws.{text_none, text_cut, text_whole}
 use Rattle.snapshot.proofs.text.text_at.Goals as goal
 

@@ -1,5 +1,5 @@
 use mathlib.Core.Path.{ap, ◌∙◌}
-use Rattle.reading.specs.Words.{text_at}
+use Rattle.snapshot.specs.reading.Words.{text_at}
 use Rattle.snapshot.proofs.text.text_of.Goals as goal
 
 pub returns : goal.returns

@@ -1,9 +1,9 @@
 use mathlib.Core.Path.{refl, ap, ◌∙◌}
 use Rattle.check_rules.proofs.Exits.{err_is}
 use Rattle.snapshot.proofs.Laws.{refusal_some}
-use Rattle.questions.specs.Questions.{question_of}
-use Rattle.window_rules.specs.States.{waiting, with_row}
-use Rattle.window_state.specs.Words.{words_of}
+use Rattle.reports.specs.questions.Questions.{question_of}
+use Rattle.windows.specs.rules.States.{waiting, with_row}
+use Rattle.windows.specs.state.Words.{words_of}
 use Rattle.windows.proofs.Laws.{placed_not, placed_so}
 use Rattle.windows.proofs.values.placed.Goals as goal
 

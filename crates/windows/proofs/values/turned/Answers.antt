@@ -1,6 +1,6 @@
 use mathlib.Core.Path.{refl}
 use native.Mathlib.Omega.{arith}
-use Rattle.window_state.specs.Words.{words_of}
+use Rattle.windows.specs.state.Words.{words_of}
 use Rattle.windows.proofs.Laws.{turned_not, turned_so}
 use Rattle.windows.proofs.values.turned.Goals as goal
 

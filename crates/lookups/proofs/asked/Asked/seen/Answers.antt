@@ -1,4 +1,4 @@
-use Rattle.tree_rules.proofs.Visible.{number_within}
+use Rattle.module_tree.proofs.rules.Visible.{number_within}
 use Rattle.lookups.proofs.asked.Asked.seen.Goals as goal
 
 pub is_visible_from-seen-requires : goal.is_visible_from-seen-requires

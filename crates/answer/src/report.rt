@@ -1,2 +1,0 @@
-//! Reports as words: passed on.
-pub use reports::report::write_report;

@@ -1,8 +1,0 @@
-use Rattle.std.proofs.Common.{◌≡◌, length, drop}
-use Rattle.case_text.specs.Words.{under_way, read_to, read_from, words_read}
-use Rattle.case_text.proofs.words.read_words.Given as goal
-
-abbrev pub invariant-loop-b : goal.invariant-loop-b
-invariant-loop-b l =
-    (length l.words ≡ length l.initial.words)
-    × (read_from (drop l.b-index l.text) (under_way l.word) (read_to l.words l.n) ≡ words_read l.text l.initial.words)

@@ -1,5 +1,0 @@
-use Rattle.case_text.proofs.Laws.{with_digit}
-use Rattle.case_text.proofs.words.with_digit.Goals as goal
-
-pub returns : goal.returns
-returns c = with_digit c.args.word c.unwrap_or.result c.args.d c.unwrap_or.ensures c.requires

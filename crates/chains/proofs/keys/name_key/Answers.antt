@@ -1,6 +1,0 @@
-use Rattle.chains.proofs.Laws.{key_is}
-use Rattle.chains.proofs.keys.name_key.Goals as goal
-
-pub returns : goal.returns
-returns c =
-    key_is c.args.words.now c.args.at c.payload-bytes.ensures c.text_words.ensures c.mix.ensures

@@ -1,5 +1,0 @@
-//! Records in chains by a key, in the work area: each key has the last number with it, each number the one before it with the same key.
-#![tactic(auto)]
-
-pub mod chain;
-pub mod keys;

@@ -1,5 +1,0 @@
-use Rattle.distances.proofs.Marking.{Rooting}
-use Rattle.distances.proofs.mark_roots.Given as goal
-
-abbrev pub invariant-loop-c : goal.invariant-loop-c
-invariant-loop-c l = Rooting l.records.words.now l.initial.area l.records.layout l.area l.c

@@ -1,8 +1,0 @@
-use Rattle.distances.proofs.Marking.{Climbing}
-use Rattle.distances.proofs.mark_scopes.Given as goal
-
-abbrev pub invariant-loop-b : goal.invariant-loop-b
-invariant-loop-b l = Climbing l.records.words.now l.initial.area l.records.layout l.initial.m.0 l.area l.m.0
-
-abbrev pub decreases-loop-b : goal.decreases-loop-b
-decreases-loop-b l = l.m.0

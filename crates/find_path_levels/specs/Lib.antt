@@ -1,0 +1,5 @@
+pub mod Levels
+pub mod Push
+pub mod Post
+pub mod Each
+pub mod walk_once

@@ -1,0 +1,3 @@
+pub mod Post
+pub mod distances
+pub mod tight_rows

@@ -1,0 +1,9 @@
+use Rattle.find_path_spec.specs.Rules.{find_in_scope}
+use Rattle.find_path_rules.proofs.RuleLaws.{scope_below}
+use Rattle.find_path_rules.proofs.find_in_scope.Goals as goal
+
+pub returns : goal.returns
+unfolding find_in_scope
+returns c =
+    let e = c.scope_entry.ensures in
+    (e, scope_below c.args.db.now.records.words.now c.args.db.now.area.now c.args.db.now.records.layout c.args.db.now.reads c.args.x c.args.item c.scope_entry.result e)

@@ -1,0 +1,10 @@
+pub mod Walk
+pub mod Rules
+pub mod Local
+pub mod Charged
+pub mod Search
+pub mod Conditions
+pub mod Meters
+pub mod Report
+pub mod Line
+pub mod laws

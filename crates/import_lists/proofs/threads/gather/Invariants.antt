@@ -1,5 +1,0 @@
-use Rattle.import_lists.proofs.Threading.{Gathering}
-use Rattle.import_lists.proofs.threads.gather.Given as goal
-
-abbrev pub invariant-loop-k : goal.invariant-loop-k
-invariant-loop-k l = Gathering l.records.words.now l.initial.area l.base l.count l.area l.k l.n

@@ -1,6 +1,0 @@
-//! A crate's import list, after `collect_import_map` of import_map.rs, for every words.
-#![tactic(auto)]
-
-pub mod threads;
-pub mod walk;
-pub mod write;

@@ -1,7 +1,0 @@
-use Prim.Native.Nat.{◌%◌}
-use mathlib.Core.Path.{ap}
-use lib.Dec.{eqb}
-use Rattle.import_map.proofs.is_hidden.Goals as goal
-
-pub returns : goal.returns
-returns c = ap (λ n. eqb (n % 2) 1) c.import_bits.ensures

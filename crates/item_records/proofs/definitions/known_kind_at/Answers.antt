@@ -1,4 +1,0 @@
-use Rattle.item_records.proofs.definitions.known_kind_at.Goals as goal
-
-pub returns : goal.returns
-returns c = rw (c.of.ensures, c.kind_at.ensures)

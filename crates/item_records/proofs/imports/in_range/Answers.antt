@@ -1,4 +1,0 @@
-use Rattle.item_records.proofs.imports.in_range.Goals as goal
-
-pub returns : goal.returns
-returns c = rw (c.import_bits.ensures, c.import_ns.ensures)

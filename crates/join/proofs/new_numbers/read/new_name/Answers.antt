@@ -1,0 +1,4 @@
+use Rattle.join.proofs.new_numbers.read.new_name.Goals as goal
+
+pub returns : goal.returns
+returns c = λ s t k h g. c.moved_name.ensures s t k h

@@ -1,5 +1,0 @@
-use mathlib.Core.Path.{◌∙◌}
-use Rattle.join_numbers.proofs.moved.moved_definition.Goals as goal
-
-pub returns : goal.returns
-returns c = λ s t h l. c.word.ensures ∙ h.definitions _ l

@@ -1,5 +1,0 @@
-//! The words of a join: the first's as they are, then the second's with their numbers moved, kind by kind.
-#![tactic(auto)]
-
-pub mod fields;
-pub mod write;

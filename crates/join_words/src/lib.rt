@@ -1,2 +1,0 @@
-//! Two snapshots joined, as lists and as words, and where their numbers go: definitions and theorems, no functions.
-#![tactic(auto)]

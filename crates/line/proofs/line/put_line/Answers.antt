@@ -1,5 +1,0 @@
-use Rattle.printing.proofs.Laws.{put_two}
-use Rattle.line.proofs.line.put_line.Goals as goal
-
-pub returns : goal.returns
-returns c = put_two c.put_bare-a.ensures.put c.put.ensures

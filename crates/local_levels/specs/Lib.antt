@@ -1,4 +1,0 @@
-pub mod Levels
-pub mod Push
-pub mod Post
-pub mod Each

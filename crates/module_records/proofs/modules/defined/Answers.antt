@@ -1,4 +1,0 @@
-use Rattle.module_records.proofs.modules.defined.Goals as goal
-
-pub returns : goal.returns
-returns c = rw (c.module_parent.ensures, c.module_map.ensures)

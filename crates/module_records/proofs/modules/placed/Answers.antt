@@ -1,5 +1,0 @@
-use Rattle.module_records.proofs.modules.placed.Goals as goal
-
-pub returns : goal.returns
-returns c =
-    rw (c.parent_placed.ensures, c.has_module-old.ensures, c.module_parent-root.ensures, c.module_map-map.ensures)

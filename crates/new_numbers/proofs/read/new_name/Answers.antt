@@ -1,4 +1,0 @@
-use Rattle.new_numbers.proofs.read.new_name.Goals as goal
-
-pub returns : goal.returns
-returns c = λ s t k h g. c.moved_name.ensures s t k h

@@ -1,5 +1,0 @@
-use Rattle.path_choices.proofs.ChoiceLaws.{keyword_same}
-use Rattle.path_choices.proofs.choices.keyword.Goals as goal
-
-pub returns : goal.returns
-returns c = keyword_same c.args.kind c.path_kind_len-text.ensures.0

@@ -1,4 +1,0 @@
-//! What is set for a question.
-#![tactic(auto)]
-
-pub mod context;

@@ -1,4 +1,0 @@
-//! What a step of a search offers.
-#![tactic(auto)]
-
-pub mod offers;

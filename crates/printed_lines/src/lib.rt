@@ -1,2 +1,0 @@
-//! The lines that are printed for an input: definitions and rows, no functions.
-#![tactic(auto)]

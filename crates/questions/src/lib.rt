@@ -1,5 +1,0 @@
-//! Questions that come in as words, and how many go in at once.
-#![tactic(auto)]
-
-pub mod fits;
-pub mod question;

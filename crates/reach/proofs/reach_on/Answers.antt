@@ -1,0 +1,60 @@
+use mathlib.Core.Path.{refl}
+use Rattle.check_rules.proofs.Exits.{err_is}
+use Rattle.snapshot.specs.Limits.{area_limit}
+use Rattle.snapshot.specs.Layouts.{snap_of}
+use Rattle.snapshot.proofs.Laws.{refusal_some}
+use Rattle.answer.proofs.checked.Laws.{fault_free, reads_of, modules_count}
+use Rattle.reach.specs.parts.Reach.{query_for}
+use Rattle.reach.proofs.Laws.{reach_fault, reach_verdict, by_refusal, by_answer, unknown_module, known_module}
+use Rattle.reach.proofs.reach_on.Goals as goal
+
+pub returns-in_err-call_fault : goal.returns-in_err-call_fault
+returns-in_err-call_fault c =
+    rw (err_is _ _ c.from_residual.ensures.1) (record {
+      reach = reach_fault c.args.v _ c.args.words.now area_limit _ c.in_err-call_fault.ensures (refusal_some _) refl;
+      checked = c.requires;
+    })
+
+pub returns-in_err-layout : goal.returns-in_err-layout
+returns-in_err-layout c =
+    let s = c.args in
+    let k = by_refusal s.v _ s.words.now s.area.now s.c c.requires _ c.in_err-layout.was refl in
+    rw (err_is _ _ c.from_residual-in_err-layout.ensures.1) (record {
+      reach = reach_verdict s.v _ s.words.now area_limit _ c.in_ok-call_fault.ensures refl k.0;
+      checked = k.1;
+    })
+
+pub returns-then-layout-v : goal.returns-then-layout-v
+returns-then-layout-v c =
+    let s = c.args in
+    let l = c.in_ok-layout.layout in
+    let e = unknown_module s.v _ (snap_of s.words.now s.area.now l) _ (modules_count s.words.now s.area.now l) c.if-layout-v.true refl in
+    let k = by_answer s.v _ s.words.now s.area.now s.c c.requires l _ c.in_ok-layout.was refl e in
+    record {
+      reach = reach_verdict s.v _ s.words.now area_limit _ c.in_ok-call_fault.ensures refl k.0;
+      checked = k.1;
+    }
+
+pub reach_in-requires : goal.reach_in-requires
+reach_in-requires c =
+    let s = c.args in
+    let k = fault_free area_limit (query_for s.v 0 0) s.v.fuel c.in_ok-call_fault.ensures in (
+      reads_of s.words.now s.area.now s.c c.requires _ c.in_ok-layout.was,
+      c.if-layout-v.false,
+      k.1,
+      k.3,
+      k.4,
+    )
+
+pub returns : goal.returns
+returns c =
+    let s = c.args in
+    let l = c.in_ok-layout.layout in
+    let f = c.reach_in.ensures in
+    let e = known_module s.v _ (snap_of s.words.now s.area.now l) _ (modules_count s.words.now s.area.now l) c.if-layout-v.false
+    refl f.value in
+    let k = by_answer s.v _ s.words.now s.area.now s.c c.requires l _ c.in_ok-layout.was f.area_unchanged e in
+    record {
+      reach = reach_verdict s.v _ s.words.now area_limit _ c.in_ok-call_fault.ensures refl k.0;
+      checked = k.1;
+    }

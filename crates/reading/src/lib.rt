@@ -1,4 +1,0 @@
-//! Words, and their kinds and payloads.
-#![tactic(auto)]
-
-pub mod words;

@@ -1,2 +1,0 @@
-//! What a path means, read from a module of a snapshot: definitions and rows, no functions.
-#![tactic(auto)]

@@ -1,6 +1,0 @@
-//! What is asked of each record, and the step of a name.
-#![tactic(auto)]
-
-pub mod crates;
-pub mod judge;
-pub mod names;

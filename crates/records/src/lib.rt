@@ -1,7 +1,0 @@
-//! The step of a dependency, a child and a prelude; repeats of a record among the earlier ones.
-#![tactic(auto)]
-
-pub mod children;
-pub mod dependencies;
-pub mod preludes;
-pub mod repeats;

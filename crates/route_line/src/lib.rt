@@ -1,5 +1,0 @@
-//! The printed line with its route.
-#![tactic(auto)]
-
-pub mod lines;
-pub mod route;

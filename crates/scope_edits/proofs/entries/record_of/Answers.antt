@@ -1,7 +1,0 @@
-use mathlib.Core.Path.{refl}
-use Rattle.edit_rules.specs.Entries.{scope_words}
-use Rattle.scope_edits.proofs.entries.record_of.Goals as goal
-
-pub returns : goal.returns
-unfolding scope_words
-returns c = refl

@@ -1,6 +1,0 @@
-use native.Mathlib.Omega.{arith}
-use Rattle.scope_edits.proofs.Shifted.{put_in}
-use Rattle.scope_edits.proofs.moves.put_record.Goals as goal
-
-pub returns : goal.returns
-returns c = put_in c.args.words.now c.args.added.now _ c.args.at _ (omega arith) c.copy_from_slice.ensures.after

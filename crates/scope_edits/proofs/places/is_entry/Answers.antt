@@ -1,5 +1,0 @@
-use Rattle.scope_edits.proofs.places.is_entry.Goals as goal
-
-pub returns : goal.returns
-returns c =
-    rw (c.scope_ns.ensures, c.scope_name-called.ensures, c.scope_owner-holder.ensures, c.kind.ensures)

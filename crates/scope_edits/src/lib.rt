@@ -1,6 +1,0 @@
-//! A snapshot's words with one scope record more or less.
-#![tactic(auto)]
-
-pub mod entries;
-pub mod moves;
-pub mod places;

@@ -1,2 +1,0 @@
-pub mod Items
-pub mod Starts

@@ -1,4 +1,0 @@
-//! The search of a question with a tank.
-#![tactic(auto)]
-
-pub mod inner;

@@ -1,3 +1,0 @@
-//! Laws of the search: what two fuels and two limits have to do with each other, routes, reading back, the visited set; and those of the
-//! local search, by which a fast form answers as the plain rules do. Definitions and theorems, no functions.
-#![tactic(auto)]

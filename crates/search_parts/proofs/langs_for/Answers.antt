@@ -1,8 +1,0 @@
-use Rattle.search_parts.proofs.Parts.{langs_first, langs_other}
-use Rattle.search_parts.proofs.langs_for.Goals as goal
-
-pub returns-then-nostd : goal.returns-then-nostd
-returns-then-nostd c = langs_first c.args.nostd c.if-nostd.true
-
-pub returns : goal.returns
-returns c = langs_other c.args.nostd c.if-nostd.false

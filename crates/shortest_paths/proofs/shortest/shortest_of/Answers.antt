@@ -1,7 +1,0 @@
-use Rattle.nameable.specs.Breadth.{shortest_of}
-use Rattle.shortest_paths.proofs.shortest.shortest_of.Goals as goal
-
-pub returns : goal.returns
-unfolding shortest_of
-returns c =
-    c.shorter.ensures _ _ c.arrival_told-near.ensures.value c.enum_told-by.ensures

@@ -1,0 +1,4 @@
+//! Lists of test cases as text.
+
+pub mod text;
+pub mod words;

@@ -1,4 +1,0 @@
-pub mod Modules
-pub mod Visibility
-pub mod Privately
-pub mod Examples

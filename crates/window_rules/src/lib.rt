@@ -1,2 +1,0 @@
-//! The state of eight windows, a question placed and a turn: definitions and rows, no functions.
-#![tactic(auto)]

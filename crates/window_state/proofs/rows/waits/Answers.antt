@@ -1,9 +1,0 @@
-use native.Mathlib.Omega.{arith}
-use Rattle.window_state.proofs.StateWords.{rows_eight, word_waits}
-use Rattle.window_state.proofs.rows.waits.Goals as goal
-
-pub returns : goal.returns
-returns c =
-    let s = c.args in
-    let l = rows_eight s.windows _ c.well_formed.0 in
-    word_waits s.windows s.window.number _ (omega (arith, l, s.window.below))

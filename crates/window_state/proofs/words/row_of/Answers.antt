@@ -1,8 +1,0 @@
-use mathlib.Core.Path.{refl}
-use Rattle.window_state.specs.Words.{row_words}
-use Rattle.window_state.proofs.StateWords.{row_read}
-use Rattle.window_state.proofs.words.row_of.Goals as goal
-
-pub returns : goal.returns
-unfolding row_words
-returns c = row_read c.args.words c.args.window.number c.well_formed.0.1.0.1 c.args.window.below _ refl

@@ -1,0 +1,2 @@
+-- The state of eight windows, a question placed and a turn: definitions and rows, no functions.
+pub mod States

@@ -1,4 +1,0 @@
-//! The words of an answer.
-#![tactic(auto)]
-
-pub mod text;
