@@ -1,13 +1,12 @@
 -- Laws of a work area that is cleared, and of an entry point.
 use Prim.Native.Nat.{ℕ, ◌+◌, ◌≤◌, ◌<◌}
 use mathlib.Core.Path.{◌≡◌, sym, ◌∙◌, ap}
-use mathlib.Core.List.{List, ◌++◌, append-nil}
+use mathlib.Core.List.{List, ◌++◌}
 use native.Mathlib.Omega.{arith}
 use borrow.Author.Tests.{lt-ltb, le-ltb}
-use borrow.Author.Fill.{fill_more}
 use lib.Seq.{length-take-le}
 use Rattle.std.specs.Array.{IsFirstChunk}
-use lib.ListN.{length, set, drop, replicate, drop_of_length-le}
+use lib.ListN.{length, drop}
 use Rattle.snapshot.specs.Limits.{area_limit}
 use Rattle.snapshot.specs.Refusals.{area_refusal}
 use Rattle.find_path_spec.specs.declared.Question.{Question}
@@ -38,7 +37,8 @@ module _ (W A : List ℕ) (q : Question) (r : Report) where
         area = area_small A h;
       }
 
-  pub answers_large : (B : List ℕ) → area_limit ≤ length A → r ≡ report_of W area_limit q → B ≡ zeros area_limit → Answers W A q (B ++ drop area_limit A) r
+  pub answers_large : (B : List ℕ) → area_limit ≤ length A → r ≡ report_of W area_limit q → B ≡ zeros area_limit
+      → Answers W A q (B ++ drop area_limit A) r
   answers_large B h e z =
       record {
         report = e ∙ same_report W area_limit (length A) q (omega arith) h;

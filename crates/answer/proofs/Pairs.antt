@@ -1,4 +1,4 @@
--- Demand 3 of two reports of the code.
+-- Two reports of the code, of one question with two fuels, compared.
 use Prim.Native.Nat.{ℕ, ◌≤◌, ◌<◌}
 use mathlib.Core.Path.{◌≡◌, refl, ◌∙◌, subst}
 use mathlib.Core.List.{List}
@@ -41,7 +41,8 @@ module _ (W : List ℕ) (n : ℕ) (q : Question) where
         (refused_two fuel_refusal)))
   ]
 
-told_of : (W : List ℕ) (q : Query) (F G : ℕ) (r s : Report) → Compared W area_limit q F G → r ≡ report_at W area_limit q F → s ≡ report_at W area_limit q G
+told_of : (W : List ℕ) (q : Query) (F G : ℕ) (r s : Report) → Compared W area_limit q F G → r ≡ report_at W area_limit q F
+    → s ≡ report_at W area_limit q G
     → FuelsTold W q F G r s
 told_of W q F G r s c e f = rw (e, f) (record {
   snapshot = c.snapshot;

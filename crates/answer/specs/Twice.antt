@@ -1,4 +1,4 @@
--- Demand 3 of one question that is put with two fuels.
+-- What the reports of one question have to do with each other when it is put with two fuels.
 use Rattle.std.specs.Prelude.{ℕ, ◌≤◌, ◌<◌, ◌≡◌, List, ◌↔◌}
 use Rattle.snapshot.specs.Records.{Snapshot}
 use Rattle.check_rules.specs.Verdict.{accept, verdict}

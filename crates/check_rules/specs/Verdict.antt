@@ -3,7 +3,8 @@ use Rattle.std.specs.Prelude.{ℕ, zero, suc, ◌+◌, List, [], Bool, true, fal
 use Rattle.snapshot.specs.Limits.{word_limit}
 use Rattle.snapshot.specs.Refusals.{words_refusal, form_refusal, place_refusal}
 use Rattle.snapshot.specs.Words.{kind_of, arguments_at}
-use Rattle.snapshot.specs.Records.{Snapshot, name_at, crate_at, dependency_at, map_at, module_at, child_at, prelude_at, definition_at, scope_at, import_at}
+use Rattle.snapshot.specs.Records.{Snapshot, name_at, crate_at, dependency_at, map_at, module_at, child_at, prelude_at, definition_at, scope_at}
+use Rattle.snapshot.specs.Records.{import_at}
 use Rattle.snapshot.specs.Records.{extern_at, member_at}
 use Rattle.check_rules.specs.Tests.{maps_filled, crates_own}
 use Rattle.check_rules.specs.Steps.{Next, no, on, need, name_step, crate_step, dependency_step, map_step, module_step, child_step, prelude_step}

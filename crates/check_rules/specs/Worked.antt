@@ -1,10 +1,11 @@
--- Document 01's worked snapshot: a crate with a module `a` that holds a function `f`.
+-- The worked snapshot (samples/worked.snapshot): a crate with a module `a` that holds a function `f`.
 use Rattle.std.specs.Prelude.{ℕ, ◌≡◌, refl, List, [], ◌∷◌}
 use Rattle.snapshot.specs.Lists.{rows, any, all, eq_list}
 use Rattle.snapshot.specs.Words.{arguments_of}
 use Rattle.snapshot.specs.Records.{Snapshot}
 use Rattle.check_rules.specs.Tests.{text_bound, padded}
-use Rattle.check_rules.specs.Steps.{name_step, crate_step, dependency_step, map_step, module_step, child_step, prelude_step, definition_step, scope_step}
+use Rattle.check_rules.specs.Steps.{name_step, crate_step, dependency_step, map_step, module_step, child_step, prelude_step, definition_step}
+use Rattle.check_rules.specs.Steps.{scope_step}
 use Rattle.check_rules.specs.Steps.{import_step, extern_step, member_step}
 use Rattle.check_rules.specs.Verdict.{arguments_from, record_step, step_at, finish, records, verdict, accept}
 

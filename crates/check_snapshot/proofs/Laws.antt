@@ -115,11 +115,3 @@ form_same Join = refl
 
 pub front : {old new t : List ℕ} {r : ℕ} → Put old 0 t new r → take r new ≡ t
 front p = p.same
-
-pub front_counts : {old new t : List ℕ} {r : ℕ} → Put old 0 t new r → IsPrefixLen r new
-front_counts {old} {new} {t} {r} p =
-    let e : length (take r new) ≡ length t = ap length p.same in
-    let q : length (take r new) ≡ min r (length new) = length-take r new in
-    let n = p.next in
-    let h : r ≤ length new = omega arith in
-    (h, sym (length-take-le r new h))

@@ -1,5 +1,6 @@
 -- Entries of scopes as words, and where they stand in a snapshot's words.
-use Rattle.std.specs.Prelude.{ℕ, zero, suc, ◌+◌, ◌*◌, ◌-◌, List, [], ◌∷◌, ◌++◌, map, Bool, true, false, ◌&&◌, not, eqb, ltb, length, get_or, take, drop}
+use Rattle.std.specs.Prelude.{ℕ, zero, suc, ◌+◌, ◌*◌, ◌-◌, List, [], ◌∷◌, ◌++◌, map, Bool, true, false, ◌&&◌, not, eqb, ltb, length, get_or, take}
+use Rattle.std.specs.Prelude.{drop}
 use Rattle.snapshot.specs.Words.{kind_of, arguments_at}
 use Rattle.snapshot.specs.Sizes.{scope_size}
 use Rattle.snapshot.specs.Records.{Scope, Import, Extern, Snapshot, scope_at}

@@ -7,7 +7,8 @@ use Rattle.check_rules.specs.Verdict.{accept, verdict}
 use Rattle.accept.proofs.Accepted.{by_test}
 use Rattle.find_path_spec.specs.declared.Question.{Question}
 use Rattle.find_path_spec.specs.Report.{report_of}
-use Rattle.edit_rules.specs.Entries.{is_named, higher, lower, moved_scope, moved_import, moved_extern, placed, with_lists, with_scopes, without, scopes_end}
+use Rattle.edit_rules.specs.Entries.{is_named, higher, lower, moved_scope, moved_import, moved_extern, placed, with_lists, with_scopes, without}
+use Rattle.edit_rules.specs.Entries.{scopes_end}
 use Rattle.edit_rules.specs.Entries.{scope_words}
 use Rattle.edit_rules.specs.Edits.{Edit, refused_by, edited, Operation, adding, removing, edited_snapshot}
 use Rattle.edit_rules.specs.Written.{import_words, extern_words, each_words, joined, snapshot_words, words_with}

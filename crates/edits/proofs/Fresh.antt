@@ -71,7 +71,7 @@ taken_is : (area : ℕ) (W : List ℕ) (n : ℕ) (o : Operation) (s : Snapshot) 
     → edit_fault s (length (take n W)) (length W) o ≡ 0 → edit_of area W n o ≡ edited (edited_words (take n W) o)
 taken_is area W n o s h g acc f = of_large area W n o h ∙ within_by W n o g ∙ fault_none W n o s acc 0 (sym f) refl
 
-accept_same : (s t : Snapshot) → accept s ≡ accept t → s ≡ t
+pub accept_same : (s t : Snapshot) → accept s ≡ accept t → s ≡ t
 accept_same s t e = cc
 
 -- One edit: the new words are accepted as the edited snapshot, with the same lists but for the scopes and the places of the records after

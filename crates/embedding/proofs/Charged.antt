@@ -86,7 +86,8 @@ module _ (e : Numbers) (s u : Snapshot) (em : Embeds e s u) (v : Valid s) (w : V
   zero_low true k h = omega arith
   zero_low false k h = h
 
-  pub sought_moved : (item : Item) → Has s item → (sought_of y (embeds.item_to e item) ≡ or_none e.modules (sought_of x item)) × (sought_of x item ≤ n)
+  pub sought_moved : (item : Item) → Has s item → (sought_of y (embeds.item_to e item) ≡ or_none e.modules (sought_of x item))
+      × (sought_of x item ≤ n)
   unfolding sought_of
   sought_moved item h =
       let q = module_in_moved e s item in
@@ -351,7 +352,8 @@ module _ (e : Numbers) (s u : Snapshot) (em : Embeds e s u) (v : Valid s) (w : V
     unfolding item_to
     item_to_alike zero item h t t' r = record { choice = nothing_alike e s u em; meter = r }
     item_to_alike (suc d) item h t t' r =
-        find_inner_alike (search_module M charge s x) (search_module M charge u y) search_module_alike (item_to M charge s x d) (item_to M charge u y d)
+        find_inner_alike (search_module M charge s x) (search_module M charge u y) search_module_alike (item_to M charge s x d)
+        (item_to M charge u y d)
         (item_to_alike d) item h t t' r
 
     -- the item search

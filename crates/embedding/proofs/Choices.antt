@@ -9,7 +9,8 @@ use lib.ListN.{length, get_or, take, set, length-set}
 use Rattle.snapshot.specs.Lists.{eq_list}
 use Rattle.snapshot.specs.Records.{Snapshot, Name}
 use Rattle.find_path_choice.specs.Choices.{Choice}
-use Rattle.find_path_choice.specs.Choices.{name_data, name_len, is_prelude, path_kind_len, path_len, nothing, keyword, choice_new, extended, push, unstably}
+use Rattle.find_path_choice.specs.Choices.{name_data, name_len, is_prelude, path_kind_len, path_len, nothing, keyword, choice_new, extended, push}
+use Rattle.find_path_choice.specs.Choices.{unstably}
 use Rattle.find_path_choice.specs.Choices.{compare_bool, and_then, compare_prelude, taken, better, try_select, shorter_if, length_left}
 use Rattle.join_rules.specs.Joined.{Numbers}
 use Rattle.embedding.specs.Embeds.{Embeds}

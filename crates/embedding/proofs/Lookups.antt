@@ -14,7 +14,8 @@ use Rattle.accept.specs.Valid.{Valid, Each, none, more, DefinitionFits}
 use Rattle.accept.proofs.Accepted.{by_test}
 use Rattle.accept.proofs.Bools.{each_at}
 use Rattle.hir_def.specs.Finds.{first_of, select}
-use Rattle.hir_def.specs.Items.{types, module_kind, variant_kind, builtin_kind, definition_of, item_of, same_item, ns_of, home_by, home_of, module_item}
+use Rattle.hir_def.specs.Items.{types, module_kind, variant_kind, builtin_kind, definition_of, item_of, same_item, ns_of, home_by, home_of}
+use Rattle.hir_def.specs.Items.{module_item}
 use Rattle.hir_def.specs.Items.{defined_item}
 use Rattle.hir_def.specs.declared.Item.{Item}
 use Rattle.hir_def.specs.declared.Item.TheVariants.{Mod, Def}

@@ -19,14 +19,16 @@ use Rattle.accept.proofs.Bools.{and_three, each_at, or_right, or_none_lem}
 use Rattle.hir_def.specs.Finds.{place_of, select}
 use Rattle.hir_def.specs.Items.{definition_of, crate_data, module_of, map_of, root_of, own_map}
 use Rattle.edit_rules.specs.Entries.{moved_scope, moved_import, moved_extern}
-use Rattle.join_rules.specs.Joined.{Numbers, first_numbers, second_numbers, name_number, same_builtin, definition_number, or_none, first_to, second_to}
+use Rattle.join_rules.specs.Joined.{Numbers, first_numbers, second_numbers, name_number, same_builtin, definition_number, or_none, first_to}
+use Rattle.join_rules.specs.Joined.{second_to}
 use Rattle.join_rules.specs.Joined.{dependency_to, map_to, module_to, child_to, prelude_to, definition_to, scope_to, import_to, extern_to, member_to}
 use Rattle.join_rules.specs.Joined.{definition_put, placed_by, placed, kind_base, together, joined, merged_number}
 use Rattle.join_rules.proofs.Lists.{any_not, any_has, placed_at}
 use Rattle.join_rules.proofs.Merged.{kept_less, number_old, merged_low}
 use Rattle.join_rules.proofs.Stages.{Whole}
 use Rattle.join_rules.proofs.Wholes.{each_two}
-use Rattle.join_rules.proofs.Sound.{name_at_lem, name_apart, is_other, other_kind, definition_counts, definition_low, definition_at_lem, module_counts}
+use Rattle.join_rules.proofs.Sound.{name_at_lem, name_apart, is_other, other_kind, definition_counts, definition_low, definition_at_lem}
+use Rattle.join_rules.proofs.Sound.{module_counts}
 use Rattle.join_rules.proofs.Sound.{module_low, module_high, map_low, map_high}
 use Rattle.embedding.proofs.Chains.{none_same}
 use Rattle.embedding.specs.Embeds.{Within, done, ours, theirs, Embeds}
@@ -288,7 +290,8 @@ module _ (s t : Snapshot) (v : Valid s) (w : Valid t) (sw : Whole s) (tw : Whole
       λ i. record { kind = k i; first = h i; second = n i; place = q }
 
   second_definition : (d : ℕ) → d < length t.definitions
-      → definition_of u (definition_number s t d) ≡ definition_put (definition_of u (definition_number s t d)).place (definition_to e (definition_of t d))
+      → definition_of u (definition_number s t d) ≡ definition_put (definition_of u (definition_number s t d)).place
+      (definition_to e (definition_of t d))
   unfolding definition_of
   second_definition d l =
       let j = definition_number s t d in

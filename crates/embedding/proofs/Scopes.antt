@@ -59,7 +59,8 @@ module _ (e : Numbers) (s u : Snapshot) (em : Embeds e s u) (v : Valid s) where
         v.ranges.scopes em.scopes
 
     -- `names_of`, by tests that tell alike entries alike
-    pub names_of_moved : (item : Item) → Has s item → (p q : Scope → Bool) → ((x z : Scope) → ScopeFits (counts_of s) x → ScopeAlike e x z → q z ≡ p x)
+    pub names_of_moved : (item : Item) → Has s item → (p q : Scope → Bool)
+        → ((x z : Scope) → ScopeFits (counts_of s) x → ScopeAlike e x z → q z ≡ p x)
         → Both (ScopeHit (λ x. is_for s m item x && p x)) (names_of s m item p) (names_of u (e.modules m) (item_to e item) q)
     unfolding names_of
     names_of_moved item h p q same =

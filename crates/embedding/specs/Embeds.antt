@@ -7,7 +7,8 @@ use Rattle.hir_def.specs.declared.Item.{Item}
 use Rattle.hir_def.specs.declared.Item.TheVariants.{Mod, Def}
 use Rattle.find_path_spec.specs.declared.FindPathCtx.{FindPathCtx}
 use Rattle.edit_rules.specs.Entries.{moved_scope, moved_import, moved_extern}
-use Rattle.join_rules.specs.Joined.{Numbers, or_none, dependency_to, map_to, module_to, child_to, prelude_to, definition_to, scope_to, import_to, extern_to}
+use Rattle.join_rules.specs.Joined.{Numbers, or_none, dependency_to, map_to, module_to, child_to, prelude_to, definition_to, scope_to, import_to}
+use Rattle.join_rules.specs.Joined.{extern_to}
 use Rattle.join_rules.specs.Joined.{member_to, definition_put}
 
 -- no number below n goes to k

@@ -57,7 +57,8 @@ module _ (W A : List ℕ) (l : Layout) (r : Reads W A l) (n : ℕ) (h : n < l.na
       by false e = refl
 
   pub name_prelude : (eqb (pay_of (get_or W (name_head A n) 0)) 7
-      && (eqb (get_or W (name_head A n + 1) 0) 0x657270 && (eqb (get_or W (name_head A n + 2) 0) 0x64756C && eqb (get_or W (name_head A n + 3) 0) 0x65)))
+      && (eqb (get_or W (name_head A n + 1) 0) 0x657270
+      && (eqb (get_or W (name_head A n + 2) 0) 0x64756C && eqb (get_or W (name_head A n + 3) 0) 0x65)))
       ≡ is_prelude (snap_of W A l) n
   unfolding is_prelude
   name_prelude =

@@ -221,7 +221,8 @@ impl Choice {
         n: Name,
         via: usize,
     ) -> Choice
-        requires { (n.0 < db.now.records.layout.names) × ((given best).count < 2 ^ 32) × (other.count < 16) × (other.path_text_len < 2 ^ 32) × (other.steps < 17) }
+        requires { (n.0 < db.now.records.layout.names) × ((given best).count < 2 ^ 32) × (other.count < 16) × (other.path_text_len < 2 ^ 32)
+            × (other.steps < 17) }
         ensures { chosen result ≡ try_select (snap_in db.now) prefer (given best) (chosen other) n.0 via }
     {
         let Some(current) = best else {

@@ -52,7 +52,8 @@ pub fn module_in(item: Item) -> usize
 /// What is set for a question about an item of that home; `own` is the module that the item is, +1, or 0.
 // `own` as `module_in` gives it.
 pub fn context(db: &Snapshot, q: Query, home: ModuleId, own: usize) -> FindPathCtx
-    requires { (q.from.0 < db.now.records.layout.modules) × (home.0 < db.now.records.layout.modules) × (own ≡ module_in (item_of (snap_in db.now) q.ns q.definition.0)) }
+    requires { (q.from.0 < db.now.records.layout.modules) × (home.0 < db.now.records.layout.modules)
+        × (own ≡ module_in (item_of (snap_in db.now) q.ns q.definition.0)) }
     ensures { result ≡ context_of (snap_in db.now) q home.0 }
 {
     let options = q.options;

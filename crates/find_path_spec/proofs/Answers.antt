@@ -7,7 +7,7 @@ use Rattle.find_path_spec.proofs.Worked.{with_modules, module_cases, with_old_na
 use Rattle.find_path_spec.proofs.Worked.{worked_cases, dependency_cases_lem, std_cases_lem, facade_cases_lem, foreign_cases_lem}
 use Rattle.find_path_spec.proofs.Worked.{module_cases_lem, old_name_cases_lem, limit_cases_lem, read_cases_lem}
 
--- document 01's fourteen cases, and those of further snapshots
+-- the fourteen worked cases, and those of further snapshots
 pub record Answers : Type 0 where
   pub fourteen : passes worked cases ≡ true
   pub dependency : passes with_dependency dependency_cases ≡ true

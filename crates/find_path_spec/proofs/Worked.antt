@@ -1,4 +1,4 @@
--- Document 01's fourteen worked cases, and more on five further snapshots: one table each of questions and lines.
+-- Fourteen worked cases on the worked snapshot, and more on five further snapshots: one table each of questions and lines.
 use Rattle.std.proofs.Common.{◌≡◌, ℕ, ◌+◌, ◌*◌, Bool, true, ◌&&◌, List, [], ◌∷◌, ◌++◌, length, refl}
 use Prim.Native.String.{String}
 use Rattle.snapshot.specs.Lists.{rows, any, all, eq_list}
@@ -7,37 +7,45 @@ use Rattle.snapshot.specs.Words.{arguments_of}
 use Rattle.snapshot.specs.Records.{Snapshot}
 use Rattle.keywords.specs.Keywords.{is_keyword, is_raw}
 use Rattle.check_rules.specs.Tests.{text_bound, padded}
-use Rattle.check_rules.specs.Steps.{name_step, crate_step, dependency_step, map_step, module_step, child_step, prelude_step, definition_step, scope_step}
+use Rattle.check_rules.specs.Steps.{name_step, crate_step, dependency_step, map_step, module_step, child_step, prelude_step, definition_step}
+use Rattle.check_rules.specs.Steps.{scope_step}
 use Rattle.check_rules.specs.Steps.{import_step, extern_step, member_step}
 use Rattle.check_rules.specs.Builtins.{packed}
 use Rattle.check_rules.specs.Verdict.{arguments_from, record_step, step_at, finish, records, verdict}
 use Rattle.check_rules.specs.Worked.{worked, worked_snapshot}
 use Rattle.hir_def.specs.Finds.{or_first, first_of, place_of, select, first_some}
-use Rattle.hir_def.specs.Items.{module_of, map_of, definition_of, crate_data, root_of, own_map, crate_root, or_else, containing, item_of, same_item, ns_of}
+use Rattle.hir_def.specs.Items.{module_of, map_of, definition_of, crate_data, root_of, own_map, crate_root, or_else, containing, item_of, same_item}
+use Rattle.hir_def.specs.Items.{ns_of}
 use Rattle.hir_def.specs.Items.{home_by, home_of}
 use Rattle.module_tree.specs.rules.Visibility.{last_or, last_to, last, met_or, met_to, met, unless, climb_step, climb, in_module, is_visible_from}
 use Rattle.hir_def.specs.ItemScope.{is_for, name_of, names_of, preferred, get, modules_in_scope}
-use Rattle.hir_def.specs.Nameres.{steps_or, steps_to, steps, ancestor_maps, scope_entry, entry_named, is_other, occupied, containers, children_of, prelude_of}
+use Rattle.hir_def.specs.Nameres.{steps_or, steps_to, steps, ancestor_maps, scope_entry, entry_named, is_other, occupied, containers, children_of}
+use Rattle.hir_def.specs.Nameres.{prelude_of}
 use Rattle.hir_def.specs.Nameres.{extern_of, dependencies_of, lang_of, sysroot_first}
 use Rattle.hir_def.specs.ImportMap.{import_info_for}
 use Rattle.hir_def.proofs.Plain.{plainly}
 use Rattle.read_back.specs.readings.Reads as Reads
-use Rattle.read_back.specs.readings.Reads.{outward, scopes_from, stands_for, meaning, entry_or, extern_named, extern_means, in_externs, prelude_means, in_prelude_of}
-use Rattle.read_back.specs.readings.Reads.{entry_from, first_name, variant_named, variant_in, later_name, after, looked_in, follow, absolutely, parent_means, reads_to}
+use Rattle.read_back.specs.readings.Reads.{outward, scopes_from, stands_for, meaning, entry_or, extern_named, extern_means, in_externs, prelude_means}
+use Rattle.read_back.specs.readings.Reads.{in_prelude_of}
+use Rattle.read_back.specs.readings.Reads.{entry_from, first_name, variant_named, variant_in, later_name, after, looked_in, follow, absolutely, parent_means}
+use Rattle.read_back.specs.readings.Reads.{reads_to}
 use Rattle.read_back.specs.readings.Reads.{is_the, reads_back}
 use Rattle.find_path_spec.specs.declared.Query.{Query}
 use Rattle.find_path_spec.specs.declared.Report.{Report}
 use Rattle.find_path_spec.specs.declared.Question.{Question}
-use Rattle.find_path_choice.specs.Choices.{name_data, is_prelude, path_kind_len, path_len, keyword, choice_new, extended, push, unstably, compare_bool, and_then}
+use Rattle.find_path_choice.specs.Choices.{name_data, is_prelude, path_kind_len, path_len, keyword, choice_new, extended, push, unstably, compare_bool}
+use Rattle.find_path_choice.specs.Choices.{and_then}
 use Rattle.find_path_choice.specs.Choices.{compare_prelude, taken, better, try_select, shorter_if, length_left}
 use Rattle.find_path_spec.specs.Walk.{has, visited, start_from, leads_to, unmet, walk, find_local_import_locations}
 use Rattle.find_path_spec.specs.Rules.{prefix_path_kind, plain_if, module_in, context_of, sought_of, first_found, single, find_in_scope, may_be_in_scope}
-use Rattle.find_path_spec.specs.Rules.{scope_rule, same_here, prelude_entry, in_prelude, find_in_prelude, prelude_rule, extern_kind, extern_name, root_rule}
+use Rattle.find_path_spec.specs.Rules.{scope_rule, same_here, prelude_entry, in_prelude, find_in_prelude, prelude_rule, extern_kind, extern_name}
+use Rattle.find_path_spec.specs.Rules.{root_rule}
 use Rattle.find_path_spec.specs.Rules.{parent_kind, is_kw_kind_relative_to_from, keyword_of, module_rules}
 use Rattle.find_path_spec.specs.Local.{offer, offer_entry, entry_if, importable_name, location, each_location, calculate_best_path_local, or_local}
 use Rattle.find_path_spec.specs.Local.{find_path_for_module_local}
 use Rattle.find_path_spec.specs.Meters.{drained, draw, from_tank, filled, counted}
-use Rattle.find_path_spec.specs.Charged.{langs, one_or_none, is_at, variant_of, push_variant, offer_import, find_import, find_imports, find_in_dep, find_in_deps}
+use Rattle.find_path_spec.specs.Charged.{langs, one_or_none, is_at, variant_of, push_variant, offer_import, find_import, find_imports, find_in_dep}
+use Rattle.find_path_spec.specs.Charged.{find_in_deps}
 use Rattle.find_path_spec.specs.Charged.{find_in_sysroot, go_on, after_charge, calculate_best_path, or_charged, find_path_for_module, after_enum, via_enum}
 use Rattle.find_path_spec.specs.Charged.{or_enum, by_name, of_module, find_path_inner}
 use Rattle.find_path_spec.specs.Search.{builtin_choice, local_to, search_local, best_local, module_to, search_module, item_to, search_item, from_home}
@@ -45,7 +53,8 @@ use Rattle.find_path_spec.specs.Search.{from_item, find_path}
 use Rattle.find_path_spec.specs.Report.{call_fault, question_fault, refused, flag, misleads, outcome_by, reported, searched, searched_freely}
 use Rattle.find_path_spec.specs.Report.{answer_unless, report_by, report_unless, report_of}
 use Rattle.find_path_spec.specs.Report.{report_at}
-use Rattle.find_path_spec.specs.Line.{bytes_of, unpacked, text_of, edition_in, written_of, decimal_to, decimal, joined, prefix_parts, path_text, line_parts}
+use Rattle.find_path_spec.specs.Line.{bytes_of, unpacked, text_of, edition_in, written_of, decimal_to, decimal, joined, prefix_parts, path_text}
+use Rattle.find_path_spec.specs.Line.{line_parts}
 use Rattle.find_path_spec.specs.Line.{line_in, step_text, steps_text, route_text, routed_line_in, snapshot_of, line_of, routed_line_of}
 
 pub record Row : Type 0 where
@@ -562,7 +571,7 @@ pub free_cycle : makes with_cycle (free 0 0 0 0 15 "none - 15" ∷ free 1 0 0 0 
 unfolding makes row_at with_cycle named head
 free_cycle = refl
 
--- document 01's question: definition 1 in values, from the root, Plain
+-- the worked question: definition 1 in values, from the root, Plain
 abbrev pub asked : Query
 asked = record { ns = 1; definition = record { 0 = 1 }; from = record { 0 = 0 }; prefix = 1; options = 0; limit = 15 }
 

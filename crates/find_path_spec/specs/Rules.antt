@@ -2,7 +2,8 @@
 use Rattle.std.specs.Prelude.{ℕ, zero, suc, ◌+◌, ◌/◌, ◌%◌, Bool, true, false, not, ◌&&◌, ◌||◌, List, [], ◌∷◌, ◌==◌, slice_index_or}
 use Rattle.std.specs.Prelude.{Option, None, Some}
 use Rattle.snapshot.specs.Records.{Snapshot, Scope, Prelude, Extern}
-use Rattle.hir_def.specs.Items.{map_no, map_of, crate_of, crate_data, parent_of, in_block, root_of, crate_root, is_lang, item_of, same_item, ns_of, module_item}
+use Rattle.hir_def.specs.Items.{map_no, map_of, crate_of, crate_data, parent_of, in_block, root_of, crate_root, is_lang, item_of, same_item, ns_of}
+use Rattle.hir_def.specs.Items.{module_item}
 use Rattle.module_tree.specs.rules.Visibility.{sees}
 use Rattle.hir_def.specs.ItemScope.{name_of, preferred}
 use Rattle.hir_def.specs.Nameres.{scope_entry, entry_named, occupied, prelude_of, extern_of}
@@ -11,7 +12,8 @@ use Rattle.hir_def.specs.declared.Item.TheVariants.{Mod, Def}
 use Rattle.find_path_choice.specs.Choices.{Choice}
 use Rattle.find_path_spec.specs.declared.FindPathCtx.{FindPathCtx}
 use Rattle.find_path_spec.specs.declared.Query.{Query}
-use Rattle.find_path_choice.specs.Choices.{plain_path, self_path, super_path, crate_path, absolute_path, via_scope, via_prelude, via_extern, step_by, nothing}
+use Rattle.find_path_choice.specs.Choices.{plain_path, self_path, super_path, crate_path, absolute_path, via_scope, via_prelude, via_extern, step_by}
+use Rattle.find_path_choice.specs.Choices.{nothing}
 use Rattle.find_path_choice.specs.Choices.{keyword, choice_new}
 
 -- the prefixes: 0 BySelf, 1 Plain, 2 ByCrate
@@ -161,4 +163,5 @@ module _ (s : Snapshot) (x : FindPathCtx) where
   -- `find_path_for_module` before its search: root, extern, scope, keyword, prelude, in this order
   unfoldable pub module_rules : Bool → ℕ → Choice
   module_rules maybe_extern m =
-      first_found (root_rule maybe_extern m ∷ scope_rule (module_item m) ∷ keyword_of (is_kw_kind_relative_to_from m) ∷ prelude_rule (module_item m) ∷ [])
+      first_found (root_rule maybe_extern m ∷ scope_rule (module_item m) ∷ keyword_of (is_kw_kind_relative_to_from m) ∷ prelude_rule
+      (module_item m) ∷ [])

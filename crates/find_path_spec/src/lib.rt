@@ -9,10 +9,10 @@ use snapshot::ids::{Crate, DefinitionId, ModuleId};
 // the start.
 // The flags are the settings of the Rust's context: each is a value that rules test, and none says whether another field holds.
 // `prefix` is the question's number as it came: the faults have refused the others, and an enum would need a default that is never met.
-// That its viewer is there is a clause and no fact of a type with the snapshot, as `hir_def::View` has it: the definitions make contexts of any numbers, and
-// the search writes to the area between its rules, so such a value would be made anew at each.
-// `own` is the module asked for, +1, or 0 where the item is no module. It is never C's: `sought_of` compares it with the number of the module
-// that a charge looks for, and that number becomes a word of the report. As an `Option` it would be made a number at each charge.
+// That its viewer is there is a clause and no fact of a type with the snapshot, as `hir_def::View` has it: the definitions make contexts of any
+// numbers, and the search writes to the area between its rules, so such a value would be made anew at each. `own` is the module asked for, +1, or
+// 0 where the item is no module. It is never C's: `sought_of` compares it with the number of the module that a charge looks for, and that number
+// becomes a word of the report. As an `Option` it would be made a number at each charge.
 #[derive(Clone, Copy)]
 pub struct FindPathCtx {
     pub prefix: usize,

@@ -1,15 +1,12 @@
--- The module and the parents of its blocks, one after the other.
+-- A module and those that falling steps lead to: the first answer among them, and whether one passes a test.
 use Prim.Native.Nat.{ℕ, suc, ◌<◌}
 use mathlib.Core.Path.{◌≡◌, sym, ◌∙◌, ap}
 use mathlib.Core.List.{[], ◌∷◌}
 use mathlib.Core.Bool.{Bool, true, false}
 use Rattle.std.specs.Prelude.{Option, None, Some}
-use lib.ListN.{length}
 use Rattle.snapshot.specs.Lists.{any}
-use Rattle.snapshot.specs.Records.{Snapshot}
 use Rattle.hir_def.specs.Finds.{first_some}
-use Rattle.hir_def.specs.Items.{block_of}
-use Rattle.hir_def.specs.Nameres.{steps_or, steps, ancestor_maps}
+use Rattle.hir_def.specs.Nameres.{steps_or, steps}
 use Rattle.hir_def.proofs.Laws.{Falls, steps_more}
 
 -- A module and those that falling steps lead to.
@@ -52,33 +49,3 @@ module _ (step : ℕ → ℕ) (n : ℕ) (falls : Falls step n) (m : ℕ) (h : m 
     pub any_on : p m ≡ false → (q : ℕ) → step m ≡ suc q → any p (m ∷ steps step m) ≡ any p (q ∷ steps step q)
     unfolding any
     any_on e q r = ap (any p) (around_on q r) ∙ rw (any, e)
-
--- The module and the parents of its blocks.
-module _ (s : Snapshot) (falls : Falls (block_of s) (length s.modules)) (m : ℕ) (h : m < length s.modules) where
-  -- the first answer
-  module _ {B : Type 0} (f : ℕ → Option B) where
-    pub answer_here : {y : B} → f m ≡ Some y → Some y ≡ first_some f (ancestor_maps s m)
-    unfolding ancestor_maps
-    answer_here e = first_here (block_of s) (length s.modules) falls m h f e
-
-    pub answer_none : f m ≡ None → block_of s m ≡ 0 → None ≡ first_some f (ancestor_maps s m)
-    unfolding ancestor_maps
-    answer_none e z = first_end (block_of s) (length s.modules) falls m h f e z
-
-    pub answer_on : f m ≡ None → (p : ℕ) → block_of s m ≡ suc p → first_some f (ancestor_maps s m) ≡ first_some f (ancestor_maps s p)
-    unfolding ancestor_maps
-    answer_on e p q = first_on (block_of s) (length s.modules) falls m h f e p q
-
-  -- some answer
-  module _ (p : ℕ → Bool) where
-    pub some_here : p m ≡ true → true ≡ any p (ancestor_maps s m)
-    unfolding ancestor_maps
-    some_here e = any_here (block_of s) (length s.modules) falls m h p e
-
-    pub some_none : p m ≡ false → block_of s m ≡ 0 → false ≡ any p (ancestor_maps s m)
-    unfolding ancestor_maps
-    some_none e z = any_end (block_of s) (length s.modules) falls m h p e z
-
-    pub some_on : p m ≡ false → (q : ℕ) → block_of s m ≡ suc q → any p (ancestor_maps s m) ≡ any p (ancestor_maps s q)
-    unfolding ancestor_maps
-    some_on e q r = any_on (block_of s) (length s.modules) falls m h p e q r

@@ -8,27 +8,27 @@ use native.Mathlib.Omega.{arith}
 use lib.Dec.{eqb}
 use lib.ListN.{length}
 use borrow.Author.Tests.{eqb-true, eqb-false}
-use Rattle.snapshot.specs.Sizes.{dependency_size, definition_size, scope_size, import_size}
-use Rattle.snapshot.specs.Records.{Scope, Import, Dependency, scope_at, import_at, dependency_at, prelude_at, extern_at, definition_at}
-use Rattle.snapshot.specs.Layouts.{word_count, definition_base, scope_base, import_base, dependency_base, snap_of}
+use Rattle.snapshot.specs.Sizes.{definition_size, scope_size, import_size}
+use Rattle.snapshot.specs.Records.{Scope, Import, scope_at, import_at, prelude_at, extern_at, definition_at}
+use Rattle.snapshot.specs.Layouts.{word_count, definition_base, scope_base, import_base, snap_of}
 use Rattle.snapshot.specs.declared.layout.Layout.{Layout}
 use Rattle.snapshot.proofs.Laws.{length_rows}
 use Rattle.check_records.specs.record_rules.Stands.{counts_in}
 use Rattle.accept.specs.Post.{Reads}
-use Rattle.accept.specs.Valid.{Each, more, ScopeFits, ImportFits, DependencyFits, PreludeFits, ExternFits, DefinitionFits, Ranges, Valid}
+use Rattle.accept.specs.Valid.{Each, more, ScopeFits, ImportFits, PreludeFits, ExternFits, DefinitionFits, Ranges, Valid}
 use Rattle.accept.proofs.Accepted.{by_test}
 use Rattle.accept.proofs.Bools.{and_right}
 use Rattle.accept.proofs.Valid.{accepted_valid}
-use Rattle.accept.proofs.Reading.{ranges_read, definition_read, scope_read, import_read, dependency_read}
+use Rattle.accept.proofs.Reading.{ranges_read, definition_read, scope_read, import_read}
 use Rattle.hir_def.specs.Items.{definition_of, item_of, home_of}
 use Rattle.hir_def.specs.ItemScope.{name_of, names_of, is_fresh, preferred, get}
-use Rattle.hir_def.specs.Nameres.{prelude_of, extern_of, dependencies_of, lang_of}
+use Rattle.hir_def.specs.Nameres.{prelude_of, extern_of}
 use Rattle.hir_def.specs.Entries.{Known, Meets}
 use Rattle.hir_def.specs.Spans.{Covers}
 use Rattle.hir_def.specs.declared.Item.{Item}
 use Rattle.hir_def.specs.declared.Span.{Span}
 use Rattle.hir_def.specs.declared.Item.TheVariants.{Mod, Def}
-use Rattle.hir_def.proofs.Found.{each_first, each_select}
+use Rattle.hir_def.proofs.Found.{each_first}
 use Rattle.hir_def.proofs.Fresh.{preferred_has}
 use Rattle.hir_def.proofs.Lookups.{definition_same, item_module, item_other, home_builtin, home_variant, home_other}
 
@@ -76,13 +76,10 @@ module _ (W A : List ℕ) (l : Layout) (r : Reads W A l) where
   unfolding extern_of
   extern_fits c m h e = each_first {P = ExternFits (counts_in l)} _ _ (search (ranges.externs, each_back, Each.none)) (sym e)
 
-  pub lang_fits : (c lang h : ℕ) → Some (dependency_at W h) ≡ lang_of (snap_of W A l) c lang → DependencyFits (counts_in l) (dependency_at W h)
-  unfolding lang_of dependencies_of
-  lang_fits c lang h e = each_first _ _ (each_select _ ranges.dependencies) (sym e)
-
   -- the scope record of a number
   pub scope_fits : {j h b : ℕ} → j < l.scopes → b ≡ scope_base l → h ≡ b + scope_size * j → ScopeFits (counts_in l) (scope_at W h)
-  scope_fits {j} i eb eh = subst (λ h. ScopeFits (counts_in l) (scope_at W h)) (sym (eh ∙ ap (λ x. x + scope_size * j) eb)) (scope_read W A l valid j i)
+  scope_fits {j} i eb eh =
+      subst (λ h. ScopeFits (counts_in l) (scope_at W h)) (sym (eh ∙ ap (λ x. x + scope_size * j) eb)) (scope_read W A l valid j i)
 
   pub spanned_fits : {s : Span} {j : ℕ} → Covers s (scope_base l) scope_size l.scopes → j < s.count
       → ScopeFits (counts_in l) (scope_at W (s.base + s.size * j))
@@ -97,10 +94,6 @@ module _ (W A : List ℕ) (l : Layout) (r : Reads W A l) where
   pub import_meets : {p : Import → Bool} {k j h : ℕ} → Meets p import_at import_size W (import_base l) l.imports k j h
       → ImportFits (counts_in l) (import_at W h)
   import_meets {j = j} x = subst (λ h. ImportFits (counts_in l) (import_at W h)) (sym x.head) (import_read W A l valid j x.below)
-
-  pub dependency_meets : {p : Dependency → Bool} {k j h : ℕ} → Meets p dependency_at dependency_size W (dependency_base l) l.dependencies k j h
-      → DependencyFits (counts_in l) (dependency_at W h)
-  dependency_meets {j = j} x = subst (λ h. DependencyFits (counts_in l) (dependency_at W h)) (sym x.head) (dependency_read W A l valid j x.below)
 
   -- a definition that is there
   pub definition_fits : (d : ℕ) → d < l.definitions → DefinitionFits (counts_in l) (definition_of (snap_of W A l) d)

@@ -1,9 +1,9 @@
 -- Laws of the lookups: reads of numbered records, and loops over them.
 use Rattle.hir_def.specs.declared.Place.{Place}
 use Prim.Native.Nat.{ℕ, ◌+◌, ◌-◌, ◌*◌, ◌/◌, ◌%◌, ◌≤◌, ◌<◌}
-use mathlib.Core.Path.{◌≡◌, refl, sym, ◌∙◌, ap, ap₂, subst}
-use mathlib.Core.List.{List, [], ◌∷◌, ◌++◌, reverse, reverse-append}
-use mathlib.Core.Bool.{Bool, true, false, ◌&&◌, not, and-true, or-true}
+use mathlib.Core.Path.{◌≡◌, refl, sym, ◌∙◌, ap, subst}
+use mathlib.Core.List.{List, [], ◌∷◌, reverse, reverse-append}
+use mathlib.Core.Bool.{Bool, true, false, ◌&&◌, and-true, or-true}
 use Rattle.std.specs.Prelude.{Option, None, Some}
 use native.Mathlib.Omega.{arith}
 use lib.ListN.{length, get_or, get_or-eq_default}
@@ -12,7 +12,7 @@ use borrow.Author.Tests.{eq-eqb, ne_eqb}
 use Rattle.snapshot.specs.Lists.{rows}
 use Rattle.snapshot.specs.Words.{pay_of}
 use Rattle.snapshot.specs.Sizes.{crate_size, dependency_size, definition_size, scope_size, import_size, extern_size}
-use Rattle.snapshot.specs.Records.{Snapshot, Dependency, Definition, Scope, definition_at, crate_at, dependency_at, scope_at, import_at, extern_at}
+use Rattle.snapshot.specs.Records.{Snapshot, Definition, Scope, definition_at, crate_at, dependency_at, scope_at, import_at, extern_at}
 use Rattle.snapshot.specs.Layouts.{crate_base, dependency_base, definition_base, scope_base, import_base, extern_base, snap_of}
 use Rattle.snapshot.specs.declared.layout.Layout.{Layout}
 use Rattle.snapshot.proofs.Laws.{rows_next, rows_none, rows_whole, rows_snoc, length_rows, get_d_rows, past}
@@ -20,7 +20,7 @@ use Rattle.hir_def.specs.Finds.{first_of, reads_of, select}
 use Rattle.hir_def.specs.Items.{definition_of, crate_data, item_of, home_by, defined_item, module_item}
 use Rattle.hir_def.specs.ItemScope.{is_declared, counts, is_for, name_of, names_of, name_reads, names_reads, is_module_entry, modules_in_scope}
 use Rattle.hir_def.specs.ImportMap.{is_import, import_info_for}
-use Rattle.hir_def.specs.Nameres.{is_extern, extern_of, is_dependency, is_sysroot, is_lang_sysroot, by_sysroot, dependencies_of, lang_of, sysroot_first}
+use Rattle.hir_def.specs.Nameres.{is_extern, extern_of, is_dependency, is_lang_sysroot, dependencies_of, lang_of}
 use Rattle.hir_def.specs.Entries.{ReadsAs, left_of, Meets, Ends, NextOf}
 use Rattle.hir_def.specs.declared.Item.{Item}
 
@@ -281,20 +281,3 @@ module _ (W A : List ℕ) (l : Layout) where
       (λ i. import_at W (import_base l + import_size * i)) l.imports 0
   unfolding import_info_for
   imports_whole c item = rows_whole (select (is_import (snap_of W A l) c item)) (λ i. import_at W (import_base l + import_size * i)) l.imports
-
-  pub dependencies_whole : (c : ℕ) → dependencies_of (snap_of W A l) c ≡ left_of (is_dependency c)
-      (λ i. dependency_at W (dependency_base l + dependency_size * i)) l.dependencies 0
-  unfolding dependencies_of
-  dependencies_whole c = rows_whole (select (is_dependency c)) (λ i. dependency_at W (dependency_base l + dependency_size * i)) l.dependencies
-
-  pub sysroot_whole : (c : ℕ)
-      → sysroot_first (snap_of W A l) c
-      ≡ left_of (by_sysroot c true) (λ i. dependency_at W (dependency_base l + dependency_size * i)) l.dependencies 0
-      ++ left_of (by_sysroot c false) (λ i. dependency_at W (dependency_base l + dependency_size * i)) l.dependencies 0
-  unfolding sysroot_first dependencies_of
-  sysroot_whole c =
-      let f : ℕ → Dependency = λ i. dependency_at W (dependency_base l + dependency_size * i) in
-      ap₂ (λ x y. x ++ y)
-      (select_select is_sysroot (is_dependency c) (rows f 0 l.dependencies) ∙ rows_whole (select (by_sysroot c true)) f l.dependencies)
-      (select_select (λ d. not (is_sysroot d)) (is_dependency c) (rows f 0 l.dependencies)
-      ∙ rows_whole (select (by_sysroot c false)) f l.dependencies)

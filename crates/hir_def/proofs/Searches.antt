@@ -31,7 +31,8 @@ use Rattle.hir_def.specs.Finds.{first_of, reads_of, first_some}
 use Rattle.hir_def.specs.Entries.{entry_of, NextOf}
 use Rattle.hir_def.specs.Spans.{Covers}
 use Rattle.hir_def.specs.Tests.{Only, PassedBy, MeetsBy, NextBy, FirstBy, Outwards}
-use Rattle.hir_def.proofs.Lookups.{Came, next_start, next_hit, next_miss, next_end, first_hit, first_miss, first_none, reads_hit, reads_miss, reads_none}
+use Rattle.hir_def.proofs.Lookups.{Came, next_start, next_hit, next_miss, next_end, first_hit, first_miss, first_none, reads_hit, reads_miss}
+use Rattle.hir_def.proofs.Lookups.{reads_none}
 
 -- the next, record by record
 module _ (P : ℕ → Bool → Type 0) (size b n k : ℕ) {r : Option Place} (x : NextBy P size b n k r) where
@@ -133,14 +134,16 @@ over P {s} {base} {size} {n} at k r x =
     subst (λ b. NextBy P size b n k r) at.starts
     (subst (λ z. NextBy P z s.base n k r) at.sized (subst (λ c. NextBy P s.size s.base c k r) at.counts x))
 
-module _ {R : Type 0} (q : R → Bool) (f : List ℕ → ℕ → R) (W : List ℕ) {P : ℕ → Bool → Type 0} {s : Span} {base size n : ℕ} (at : Covers s base size n)
+module _ {R : Type 0} (q : R → Bool) (f : List ℕ → ℕ → R) (W : List ℕ) {P : ℕ → Bool → Type 0} {s : Span} {base size n : ℕ}
+    (at : Covers s base size n)
     (agree : (h : ℕ) (t : Bool) → P h t → t ≡ q (f W h)) where
   pub next_in : (k : ℕ) (r : Option Place) → NextBy P s.size s.base s.count k r → NextOf q f size W base n k r
   next_in k r x = next_by q f W {P = P} size n refl agree k r (over P at k r x)
 
   pub first_in : (e : Option ℕ) → FirstBy P s.size s.base s.count e → entry_of f W e ≡ first_of q (rows (λ i. f W (base + size * i)) 0 n)
   first_in e x =
-      first_by q f W {P = P} size n at.starts agree e (subst (λ z. FirstBy P z s.base n e) at.sized (subst (λ c. FirstBy P s.size s.base c e) at.counts x))
+      first_by q f W {P = P} size n at.starts agree e
+      (subst (λ z. FirstBy P z s.base n e) at.sized (subst (λ c. FirstBy P s.size s.base c e) at.counts x))
 
 -- the records of a span
 pub spanned : {R : Type 0} (f : List ℕ → ℕ → R) (W : List ℕ) {s : Span} {base size n : ℕ} → Covers s base size n

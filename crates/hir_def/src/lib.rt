@@ -54,7 +54,8 @@ pub struct Part {
 }
 
 /// The viewing module in its snapshot.
-// For readers whose viewer stays the same. A function that writes to the area makes one where it calls them: while a view is there, its area is only read.
+// For readers whose viewer stays the same. A function that writes to the area makes one where it calls them: while a view is there, its area is
+// only read.
 #[derive(Clone, Copy)]
 pub struct View<'w, 'a> {
     pub db: Snapshot<'w, 'a>,

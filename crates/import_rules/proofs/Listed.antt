@@ -7,7 +7,8 @@ use lib.Dec.{eqb}
 use Rattle.snapshot.specs.Lists.{rows, any, all, eq_list}
 use Rattle.snapshot.specs.Words.{arguments_of}
 use Rattle.check_rules.specs.Tests.{text_bound, padded}
-use Rattle.check_rules.specs.Steps.{name_step, crate_step, dependency_step, map_step, module_step, child_step, prelude_step, definition_step, scope_step}
+use Rattle.check_rules.specs.Steps.{name_step, crate_step, dependency_step, map_step, module_step, child_step, prelude_step, definition_step}
+use Rattle.check_rules.specs.Steps.{scope_step}
 use Rattle.check_rules.specs.Steps.{import_step, extern_step, member_step}
 use Rattle.check_rules.specs.Verdict.{arguments_from, record_step, step_at, finish, records, verdict}
 use Rattle.check_rules.specs.Worked.{worked}
@@ -15,7 +16,8 @@ use Rattle.hir_def.specs.Finds.{place_of, select}
 use Rattle.hir_def.specs.Items.{definition_of, root_of, own_map}
 use Rattle.find_path_choice.specs.Choices.{name_data}
 use Rattle.find_path_spec.specs.Line.{unpacked, text_of}
-use Rattle.import_rules.specs.Collect.{text_before, entry_before, insert_by, sort_into, entries_of, piled, visits, modules_from, member_ns, imports_of}
+use Rattle.import_rules.specs.Collect.{text_before, entry_before, insert_by, sort_into, entries_of, piled, visits, modules_from, member_ns}
+use Rattle.import_rules.specs.Collect.{imports_of}
 use Rattle.import_rules.specs.Collect.{imports_in, imports_over, collected, words_of}
 use Rattle.import_rules.specs.Listings.{Listing, refused_by, listed, list_in, list_by, list_of}
 

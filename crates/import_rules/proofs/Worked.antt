@@ -1,24 +1,24 @@
 -- The imports of crates of small snapshots, worked out by hand from import_map.rs and computed.
-use Prim.Native.Nat.{ℕ, ◌+◌, ◌*◌}
-use Prim.Native.String.{String}
+use Prim.Native.Nat.{ℕ, ◌+◌}
 use mathlib.Core.Path.{◌≡◌, refl}
 use mathlib.Core.List.{List, [], ◌∷◌, ◌++◌}
 use mathlib.Core.Bool.{Bool, true, false, ◌&&◌}
-use lib.ListN.{length}
 use Rattle.snapshot.specs.Lists.{rows, any, all, eq_list}
 use Rattle.snapshot.specs.Words.{arguments_of}
 use Rattle.snapshot.specs.Records.{Snapshot, Import}
-use Rattle.check_rules.specs.Builtins.{packed}
 use Rattle.check_rules.specs.Tests.{text_bound, padded}
-use Rattle.check_rules.specs.Steps.{name_step, crate_step, dependency_step, map_step, module_step, child_step, prelude_step, definition_step, scope_step}
+use Rattle.check_rules.specs.Steps.{name_step, crate_step, dependency_step, map_step, module_step, child_step, prelude_step, definition_step}
+use Rattle.check_rules.specs.Steps.{scope_step}
 use Rattle.check_rules.specs.Steps.{import_step, extern_step, member_step}
 use Rattle.check_rules.specs.Verdict.{Verdict, refuse, accept, arguments_from, record_step, step_at, finish, records, verdict}
 use Rattle.check_rules.specs.Worked.{worked}
 use Rattle.hir_def.specs.Finds.{place_of, select}
 use Rattle.hir_def.specs.Items.{definition_of, root_of, own_map}
 use Rattle.find_path_choice.specs.Choices.{name_data}
-use Rattle.find_path_spec.specs.Line.{bytes_of, unpacked, text_of}
-use Rattle.import_rules.specs.Collect.{text_before, entry_before, insert_by, sort_into, entries_of, piled, visits, modules_from, member_ns, imports_of}
+use Rattle.find_path_spec.specs.Line.{unpacked, text_of}
+use Rattle.find_path_spec.proofs.Worked.{head, named}
+use Rattle.import_rules.specs.Collect.{text_before, entry_before, insert_by, sort_into, entries_of, piled, visits, modules_from, member_ns}
+use Rattle.import_rules.specs.Collect.{imports_of}
 use Rattle.import_rules.specs.Collect.{imports_in, imports_over, collected, words_of}
 
 -- a crate and its imports
@@ -49,12 +49,6 @@ unfolding collects agrees line collected imports_over imports_in imports_of memb
     step_at record_step finish arguments_from arguments_of name_step crate_step dependency_step map_step module_step child_step prelude_step
     definition_step scope_step import_step extern_step member_step text_bound padded rows any all eq_list
 worked_imports = refl
-
-unfoldable pub head : ℕ → ℕ → ℕ
-head kind payload = kind * 0x10000000 + payload
-
-unfoldable pub named : String → List ℕ
-named t = head 1 (length (bytes_of t)) ∷ packed (bytes_of t)
 
 -- Crate 0 with the modules 0, its root, and 1 `b` and 2 `ab` below it; crate 1 with the module 3, its root. Names: 0 `b`, 1 `ab`, 2 `c`, 3
 -- `V`, 4 `t`,

@@ -14,7 +14,8 @@ use Rattle.snapshot.specs.Limits.{word_limit, definition_limit}
 use Rattle.snapshot.specs.Sizes.{definition_size, scope_size, import_size, extern_size}
 use Rattle.snapshot.specs.Records.{Definition, Scope, Import, Extern, Member, Snapshot}
 use Rattle.check_rules.specs.Tests.{counts_of, no_map, no_module, no_definition, is_own, is_in, definition_range, definition_defined, same_definition}
-use Rattle.check_rules.specs.Tests.{definition_repeated, definition_placed, scope_range, scope_defined, same_entry, same_extern, is_member, member_placed}
+use Rattle.check_rules.specs.Tests.{definition_repeated, definition_placed, scope_range, scope_defined, same_entry, same_extern, is_member}
+use Rattle.check_rules.specs.Tests.{member_placed}
 use Rattle.check_rules.specs.Tests.{maps_filled, crates_own}
 use Rattle.check_rules.specs.Steps.{add_definition, add_scope, add_import, add_extern}
 use Rattle.accept.specs.Valid.{Valid, map_in, definition_in, crate_in, block_in, DefinitionFits, ScopeFits, Belongs}
@@ -502,7 +503,8 @@ module _ (u : Snapshot) (v : Valid u) (w : Whole u) where
       (is X u v w) (es X u v w) u.members)
   second_half =
       goes_then (omega arith)
-      (to_next 6 (omega arith) definitions_same (definitions_go X u v w (subst (At X (kind_base u 6)) (sym definitions_same) (piece 6 (omega arith)))))
+      (to_next 6 (omega arith) definitions_same
+      (definitions_go X u v w (subst (At X (kind_base u 6)) (sym definitions_same) (piece 6 (omega arith)))))
       (goes_then (omega arith)
       (to_next 7 (omega arith) scopes_same (scopes_go X u v w (subst (At X (kind_base u 7)) (sym scopes_same) (piece 7 (omega arith)))))
       (goes_then (omega arith)

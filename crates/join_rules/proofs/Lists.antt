@@ -2,13 +2,14 @@
 use Prim.Native.Nat.{ℕ, zero, suc, ◌+◌, ◌*◌, ◌<◌}
 use mathlib.Core.Path.{◌≡◌, refl, ◌∙◌, ap, ap₂}
 use mathlib.Core.List.{List, [], ◌∷◌, ◌++◌}
-use mathlib.Core.Bool.{Bool, true, false, ◌||◌}
+use mathlib.Core.Bool.{Bool, true, false}
 use native.Mathlib.Omega.{arith}
 use lib.ListN.{length, get_or, take, length-append}
 use lib.Seq.{get_or-take, length-take-le}
 use Rattle.snapshot.specs.Lists.{any, all, rows}
 use Rattle.accept.specs.Valid.{Distinct}
 use Rattle.edit_rules.specs.Written.{each_words}
+use Rattle.find_path_spec.proofs.laws.Fewer.{or_right}
 use Rattle.join_rules.specs.Joined.{placed_by}
 
 pub any_not : {A : Type 0} (p : A → Bool) (d : A) (ys : List A) → ((j : ℕ) → j < length ys → p (get_or ys j d) ≡ false) → any p ys ≡ false
@@ -22,11 +23,7 @@ pub any_has : {A : Type 0} (p : A → Bool) (d : A) (ys : List A) (j : ℕ) → 
 unfolding any
 any_has p d [] j l e = absurd (omega arith)
 any_has p d (y ∷ ys) zero l e = rw e
-any_has p d (y ∷ ys) (suc j) l e = let r = any_has p d ys j (omega arith) e in or_true (p y) (any p ys) r
-  where
-    or_true : (a b : Bool) → b ≡ true → a || b ≡ true
-    or_true true b e = refl
-    or_true false b e = e
+any_has p d (y ∷ ys) (suc j) l e = let r = any_has p d ys j (omega arith) e in or_right (p y) (any p ys) r
 
 -- a test of all the numbers from k on
 pub all_rows : (p : ℕ → Bool) (k n : ℕ) → ((i : ℕ) → i < k + n → p i ≡ true) → all p (rows (λ i. i) k n) ≡ true

@@ -8,7 +8,8 @@ use borrow.Author.Tests.{eq-eqb, ne_eqb, eqb-true, eqb-false, ltb-true, ltb-fals
 use lib.Dec.{eqb, ltb}
 use lib.ListN.{length, get_or, take, length-append}
 use Rattle.snapshot.specs.Records.{Map, Module, Child, Prelude, Definition, Scope, Import, Extern, Member, Snapshot}
-use Rattle.check_rules.specs.Tests.{counts_of, no_name, no_map, no_module, no_definition, same_name, same_child, same_prelude, same_entry, same_extern}
+use Rattle.check_rules.specs.Tests.{counts_of, no_name, no_map, no_module, no_definition, same_name, same_child, same_prelude, same_entry}
+use Rattle.check_rules.specs.Tests.{same_extern}
 use Rattle.check_rules.specs.Tests.{is_builtin}
 use Rattle.accept.specs.Valid.{Each, Valid, Ranges, Limits, Tree, Owned, Distinct, DefinedOnce, Enums, Under, MacroOnly, Belongs, NameFits, CrateFits}
 use Rattle.accept.specs.Valid.{DependencyFits, MapFits, ModuleFits, ChildFits, PreludeFits, DefinitionFits, ScopeFits, ImportFits, ExternFits}
@@ -26,10 +27,6 @@ use Rattle.join_rules.proofs.Merged.{each_mapped, both_length, both_low, both_hi
 use Rattle.join_rules.proofs.Merged.{number_new, number_old, new_apart, merged_length, merged_low, merged_high, name_equal, name_refl}
 use Rattle.join_rules.proofs.Stages.{DefinitionWhole, Whole}
 use Rattle.join_rules.proofs.Wholes.{each_two}
-
-by_none : {C : Type 0} (n : ℕ) → (n ≡ 0 → C) → ((m : ℕ) → n ≡ suc m → C) → C
-by_none zero f g = f refl
-by_none (suc n) f g = g n refl
 
 -- a number +1 that is none after it is moved was none, and another one was moved
 
@@ -525,7 +522,8 @@ module _ (s t : Snapshot) (v : Valid s) (w : Valid t) (sw : Whole s) (tw : Whole
   -- of both parts: records of one part and of the other are apart, and moving keeps records apart
   both_once : {A : Type 0} (f : A → A) (d : A) (same : A → A → Bool) (xs ys : List A)
       → ((i j : ℕ) → i < length xs → j < length ys → same (f (get_or ys j d)) (get_or xs i d) ≡ false)
-      → ((i j : ℕ) → i < length ys → j < length ys → same (get_or ys j d) (get_or ys i d) ≡ false → same (f (get_or ys j d)) (f (get_or ys i d)) ≡ false)
+      → ((i j : ℕ) → i < length ys → j < length ys → same (get_or ys j d) (get_or ys i d) ≡ false
+      → same (f (get_or ys j d)) (f (get_or ys i d)) ≡ false)
       → Distinct same d xs → Distinct same d ys → Distinct same d (xs ++ map f ys)
   both_once f d same xs ys mixed moved a b i j h l =
       let c = both_length f d xs ys in

@@ -13,13 +13,15 @@ use Rattle.snapshot.specs.Lists.{any}
 use Rattle.snapshot.specs.Limits.{crate_limit, module_limit, name_limit}
 use Rattle.snapshot.specs.Words.{words_of}
 use Rattle.snapshot.specs.Records.{Name, Crate, Dependency, Map, Module, Child, Prelude, Definition, Scope, Import, Extern, Member, Snapshot}
-use Rattle.check_rules.specs.Tests.{counts_of, no_name, no_map, no_module, padded, is_builtin, is_edition, same_name, is_own, is_in, map_defined, map_repeated}
+use Rattle.check_rules.specs.Tests.{counts_of, no_name, no_map, no_module, padded, is_builtin, is_edition, same_name, is_own, is_in, map_defined}
+use Rattle.check_rules.specs.Tests.{map_repeated}
 use Rattle.check_rules.specs.Tests.{map_placed, module_defined, module_placed, same_child, same_prelude}
 use Rattle.check_rules.specs.Steps.{add_map, add_module}
 use Rattle.accept.specs.Valid.{Each, none, more, Valid, map_in, parent_in, block_in, crate_in}
 use Rattle.accept.proofs.Accepted.{by_test}
 use Rattle.accept.proofs.Bools.{each_at}
-use Rattle.edit_rules.specs.Written.{name_words, crate_words, dependency_words, map_words, module_words, child_words, prelude_words, each_words, tree_words}
+use Rattle.edit_rules.specs.Written.{name_words, crate_words, dependency_words, map_words, module_words, child_words, prelude_words, each_words}
+use Rattle.edit_rules.specs.Written.{tree_words}
 use Rattle.edit_rules.proofs.scope_edits.Written.{tree_map, tree_module}
 use Rattle.join_rules.proofs.Lists.{any_has, before_length, before_any, before_apart}
 use Rattle.join_rules.proofs.Runs.{At, at_left, at_right, Goes, goes_none, goes_then, each_goes}
@@ -260,7 +262,8 @@ module _ (X : List ℕ) (u : Snapshot) (v : Valid u) (w : Whole u) where
       let km : length (take k ms) ≡ k = length-take-le k ms h.maps in
       let ix : length (take i xs) ≡ i = length-take-le i xs h.modules in
       each_of no_module (take i xs)
-      (λ j l. let q : j < i = omega arith in let t = h.taken j q in let e = ap (λ (y : Module). y.map) (get_or-take i xs j no_module q) in omega arith)
+      (λ j l. let q : j < i = omega arith in let t = h.taken j q in let e = ap (λ (y : Module). y.map) (get_or-take i xs j no_module q) in
+      omega arith)
 
   module _ {base : ℕ} (at : At X base (tree_words 0 ms xs)) where
     record Rest (k i : ℕ) : Type 0 where

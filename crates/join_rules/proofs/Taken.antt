@@ -11,13 +11,16 @@ use Rattle.snapshot.specs.Lists.{any, rows}
 use Rattle.snapshot.specs.Limits.{crate_limit, module_limit, name_limit, definition_limit}
 use Rattle.snapshot.specs.Words.{words_of, arguments_of}
 use Rattle.snapshot.specs.Records.{Name, Crate, Dependency, Map, Module, Child, Prelude, Definition, Scope, Import, Extern, Member, Snapshot, name_at}
-use Rattle.snapshot.specs.Records.{crate_at, dependency_at, map_at, module_at, child_at, prelude_at, definition_at, scope_at, import_at, extern_at, member_at}
+use Rattle.snapshot.specs.Records.{crate_at, dependency_at, map_at, module_at, child_at, prelude_at, definition_at, scope_at, import_at, extern_at}
+use Rattle.snapshot.specs.Records.{member_at}
 use Rattle.check_rules.specs.Tests.{text_bound, padded, child_defined, child_placed, counts_of, crate_range, is_edition, definition_defined}
 use Rattle.check_rules.specs.Tests.{definition_placed, definition_range, definition_repeated, dependency_defined, dependency_range, extern_defined}
 use Rattle.check_rules.specs.Tests.{import_defined, import_range, map_defined, map_placed, map_range, map_repeated, member_defined, member_placed}
-use Rattle.check_rules.specs.Tests.{member_range, module_defined, module_placed, name_range, ns_placed, prelude_defined, same_child, same_entry, same_extern}
+use Rattle.check_rules.specs.Tests.{member_range, module_defined, module_placed, name_range, ns_placed, prelude_defined, same_child, same_entry}
+use Rattle.check_rules.specs.Tests.{same_extern}
 use Rattle.check_rules.specs.Tests.{same_name, same_prelude, scope_defined, scope_range}
-use Rattle.check_rules.specs.Steps.{on, add_name, add_crate, add_dependency, add_map, add_module, add_child, add_prelude, add_definition, add_scope, add_import}
+use Rattle.check_rules.specs.Steps.{on, add_name, add_crate, add_dependency, add_map, add_module, add_child, add_prelude, add_definition, add_scope}
+use Rattle.check_rules.specs.Steps.{add_import}
 use Rattle.check_rules.specs.Steps.{add_extern, add_member, name_step, crate_step, dependency_step, map_step, module_step, child_step, prelude_step}
 use Rattle.check_rules.specs.Steps.{definition_step, scope_step, import_step, extern_step, member_step}
 use Rattle.check_rules.specs.Verdict.{follows, record_step}

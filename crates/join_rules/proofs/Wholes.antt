@@ -10,15 +10,18 @@ use lib.ListN.{length, get_or}
 use Rattle.snapshot.specs.Lists.{any}
 use Rattle.snapshot.specs.Limits.{crate_limit, module_limit, name_limit, definition_limit}
 use Rattle.snapshot.specs.Words.{kind_of, pay_of, words_of, arguments_at}
-use Rattle.snapshot.specs.Records.{Name, Definition, Snapshot, name_at, crate_at, dependency_at, map_at, module_at, child_at, prelude_at, definition_at}
+use Rattle.snapshot.specs.Records.{Name, Definition, Snapshot, name_at, crate_at, dependency_at, map_at, module_at, child_at, prelude_at}
+use Rattle.snapshot.specs.Records.{definition_at}
 use Rattle.snapshot.specs.Records.{scope_at, import_at, extern_at, member_at}
 use Rattle.snapshot.proofs.Laws.{length_rows}
 use Rattle.check_rules.specs.Tests.{counts_of, no_name, padded, is_builtin, child_defined, child_placed, crate_range, is_edition, definition_defined}
 use Rattle.check_rules.specs.Tests.{definition_placed, definition_range, definition_repeated, dependency_defined, dependency_range, extern_defined}
 use Rattle.check_rules.specs.Tests.{import_defined, import_range, map_defined, map_placed, map_range, map_repeated, member_defined, member_placed}
-use Rattle.check_rules.specs.Tests.{member_range, module_defined, module_placed, name_range, ns_placed, prelude_defined, same_child, same_entry, same_extern}
+use Rattle.check_rules.specs.Tests.{member_range, module_defined, module_placed, name_range, ns_placed, prelude_defined, same_child, same_entry}
+use Rattle.check_rules.specs.Tests.{same_extern}
 use Rattle.check_rules.specs.Tests.{same_name, same_prelude, scope_defined, scope_range}
-use Rattle.check_rules.specs.Steps.{on, add_name, add_crate, add_dependency, add_map, add_module, add_child, add_prelude, add_definition, add_scope, add_import}
+use Rattle.check_rules.specs.Steps.{on, add_name, add_crate, add_dependency, add_map, add_module, add_child, add_prelude, add_definition, add_scope}
+use Rattle.check_rules.specs.Steps.{add_import}
 use Rattle.check_rules.specs.Steps.{add_extern, add_member, name_step, crate_step, dependency_step, map_step, module_step, child_step, prelude_step}
 use Rattle.check_rules.specs.Steps.{definition_step, scope_step, import_step, extern_step, member_step}
 use Rattle.check_rules.specs.Verdict.{record_step, accept, records, empty, verdict}
@@ -85,7 +88,8 @@ module _ (W : List ℕ) (at : ℕ) (s t : Snapshot) (h : Sized s.names) where
   unfolding prelude_step
   prelude_sized e =
       let x = prelude_at W at in
-      kept (add_prelude s x) (judge_on true (prelude_defined (counts_of s) x) (any (same_prelude x) s.preludes) true true (add_prelude s x) t e).same h
+      kept (add_prelude s x) (judge_on true (prelude_defined (counts_of s) x) (any (same_prelude x) s.preludes) true true (add_prelude s x) t e).same
+      h
 
   definition_sized : definition_step s (definition_at W at) ≡ on t → Sized t.names
   unfolding definition_step

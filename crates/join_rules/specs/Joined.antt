@@ -225,7 +225,7 @@ question_to e q =
 
 -- what a call comes to
 
--- no limit of document 01 is passed
+-- no limit of a snapshot is passed
 abbrev pub is_within : Snapshot → Bool
 is_within u =
     leb (length (snapshot_words u)) word_limit

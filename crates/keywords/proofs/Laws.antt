@@ -34,7 +34,8 @@ module _ (e : ℕ) where
 
 -- the first keywords of a list that has them all, so many as an edition has, are its keywords
 module _ (x : Name) (f : ℕ → Name) (h : rows f 0 53 ≡ map (λ (k : Keyword). k.name) keywords) (e : ℕ) where
-  by_first : (n : ℕ) → n ≡ keywords_in e → any (same_name x) (rows f 0 n) ≡ is_keyword e x → any (same_name x) (rows f 0 (keywords_in e)) ≡ is_keyword e x
+  by_first : (n : ℕ) → n ≡ keywords_in e → any (same_name x) (rows f 0 n) ≡ is_keyword e x
+      → any (same_name x) (rows f 0 (keywords_in e)) ≡ is_keyword e x
   by_first n p q = ap (λ m. any (same_name x) (rows f 0 m)) (sym p) ∙ q
 
   edition_keywords : any (same_name x) (rows f 0 (keywords_in e)) ≡ is_keyword e x

@@ -24,9 +24,10 @@ use Rattle.hir_def.specs.Items.{crate_of, crate_data}
 use Rattle.find_path_spec.specs.declared.Report.{Report}
 use Rattle.find_path_choice.specs.Choices.{name_data, name_len}
 use Rattle.find_path_spec.specs.Report.{refused}
-use Rattle.find_path_spec.specs.Line.{bytes_of, unpacked, text_of, edition_in, written_of, decimal_to, decimal, joined, prefix_parts, path_text, line_parts}
+use Rattle.find_path_spec.specs.Line.{bytes_of, unpacked, text_of, edition_in, written_of, decimal_to, decimal, joined, prefix_parts, path_text}
+use Rattle.find_path_spec.specs.Line.{line_parts}
 use Rattle.find_path_spec.specs.Line.{line_in}
-use Rattle.find_path_spec.proofs.laws.Lines.{decimal_digit, decimal_more}
+use Rattle.find_path_spec.proofs.laws.Lines.{long, decimal_digit, decimal_more}
 use Rattle.line.specs.Joints.{joint_if}
 
 -- texts in words, three bytes a word
@@ -166,10 +167,6 @@ short : (d n : ℕ) → n < 10 → decimal_to d n ≡ (48 + n) ∷ []
 unfolding decimal_to
 short zero n h = let z : n % 10 ≡ n = omega arith in rw z
 short (suc d) n h = rw (decimal_to, lt-ltb n 10 h)
-
-long : (d n : ℕ) → 10 ≤ n → decimal_to (suc d) n ≡ decimal_to d (n / 10) ++ ((48 + n % 10) ∷ [])
-unfolding decimal_to
-long d n h = rw (decimal_to, le-ltb n 10 h)
 
 enough : (d n : ℕ) → n < tens d → decimal_to d n ≡ decimal n
 unfolding tens
@@ -353,6 +350,7 @@ pub refused_text_lem : (s : Snapshot) (y : ℕ) (r : Report) → (r.outcome ≡ 
 unfolding line_parts joined
 refused_text_lem s y r a b c = rw (line_parts, ne_eqb _ _ a, ne_eqb _ _ b, ne_eqb _ _ c)
 
-pub refusal_line_lem : (s : Snapshot) (from n : ℕ) → bytes_of "refused " ++ (decimal n ++ bytes_of " 0 0\n") ≡ line_in s from (refused n) ++ bytes_of "\n"
+pub refusal_line_lem : (s : Snapshot) (from n : ℕ)
+    → bytes_of "refused " ++ (decimal n ++ bytes_of " 0 0\n") ≡ line_in s from (refused n) ++ bytes_of "\n"
 unfolding line_in line_parts joined refused decimal decimal_to
 refusal_line_lem s from n = ap (λ z. bytes_of "refused " ++ z) (sym (append_assoc (decimal n) (bytes_of " 0 0") (bytes_of "\n")))

@@ -17,10 +17,12 @@ smallest_walk = refl
 
 -- and the Reference says that it is not:
 pub smallest_private : Privacy smallest_snapshot 3 2 0 → ⊥
-unfolding module_of map_of last_or last_to last met_or met_to met or_else containing unless climb_step climb in_module of_root block_step module_around privately
+unfolding module_of map_of last_or last_to last met_or met_to met or_else containing unless climb_step climb in_module of_root block_step
+    module_around privately
 smallest_private = not_private smallest smallest_snapshot smallest_accepted 0 2 (lit< tt) (lit< tt) refl
 
 -- the condition holds.
 pub smallest_differs : Differs smallest_snapshot 0 2
-unfolding module_of map_of last_or last_to last met_or met_to met or_else containing unless climb_step climb in_module of_root block_step module_around privately
+unfolding module_of map_of last_or last_to last met_or met_to met or_else containing unless climb_step climb in_module of_root block_step
+    module_around privately
 smallest_differs = (differs_is smallest smallest_snapshot smallest_accepted 0 2 (lit< tt) (lit< tt)).1 (refl, refl)

@@ -22,16 +22,16 @@ use Rattle.module_tree.proofs.Ways.{last_end, last_on, met_meets, meets_met}
 use Rattle.module_tree.proofs.Compared.{visible_within}
 use Rattle.module_tree.proofs.Private.{module_answers}
 
-step_root : (s : Snapshot) (t : ℕ) → parent_of s t ≡ 0 → block_step s t ≡ block_of s t
+pub step_root : (s : Snapshot) (t : ℕ) → parent_of s t ≡ 0 → block_step s t ≡ block_of s t
 unfolding block_step of_root
 step_root s t z = rw z
 
-step_inner : (s : Snapshot) (t p : ℕ) → parent_of s t ≡ suc p → block_step s t ≡ 0
+pub step_inner : (s : Snapshot) (t p : ℕ) → parent_of s t ≡ suc p → block_step s t ≡ 0
 unfolding block_step of_root
 step_inner s t p z = rw z
 
 module _ (s : Snapshot) (ok : Tree s.maps s.modules) where
-  step_falls : Falls (block_step s) (length s.modules)
+  pub step_falls : Falls (block_step s) (length s.modules)
   step_falls t b r e = by_number (parent_of s t)
       (λ z. (block_fits s ok t b r (sym (step_root s t z) ∙ e)).0)
       (λ p z. let y = step_inner s t p z in absurd (omega arith))

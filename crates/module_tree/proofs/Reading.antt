@@ -94,13 +94,15 @@ pub length_modules : (W A : List ℕ) (l : Layout) → length (snap_of W A l).mo
 length_modules W A l = length_rows (module_row A) l.modules
 
 -- the number of a crate's own map is its place
-place_own : (c k : ℕ) (ms : List Map) → 0 < own_from c k ms → (own_from c k ms ≡ place_of (is_own c) k ms + 1) × (place_of (is_own c) k ms < k + length ms)
+place_own : (c k : ℕ) (ms : List Map) → 0 < own_from c k ms
+    → (own_from c k ms ≡ place_of (is_own c) k ms + 1) × (place_of (is_own c) k ms < k + length ms)
 unfolding own_from place_of
 place_own c k [] h = absurd (omega arith)
 place_own c k (y ∷ ys) h = by (is_own c y) h (λ g. place_own c (k + 1) ys g)
   where
     by : (b : Bool) → 0 < elim b [ true ↦ k + 1 | false ↦ own_from c (k + 1) ys ]
-        → (0 < own_from c (k + 1) ys → (own_from c (k + 1) ys ≡ place_of (is_own c) (k + 1) ys + 1) × (place_of (is_own c) (k + 1) ys < k + 1 + length ys))
+        → (0 < own_from c (k + 1) ys → (own_from c (k + 1) ys ≡ place_of (is_own c) (k + 1) ys + 1)
+        × (place_of (is_own c) (k + 1) ys < k + 1 + length ys))
         → (◌≡◌ {A = ℕ} (elim b [ true ↦ k + 1 | false ↦ own_from c (k + 1) ys ]) (elim b [ true ↦ k | false ↦ place_of (is_own c) (k + 1) ys ] + 1))
         × (elim b [ true ↦ k | false ↦ place_of (is_own c) (k + 1) ys ] < k + suc (length ys))
     by true g r = (refl, omega arith)

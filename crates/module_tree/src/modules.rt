@@ -2,7 +2,8 @@
 ghost use Rattle.std.specs.Prelude.{◌≡◌, ◌<◌, eqb};
 ghost use Rattle.snapshot.specs.Ids.{plus_one};
 ghost use Rattle.accept.specs.Opened.{snap_in};
-ghost use Rattle.module_tree.specs.rules.Modules.{map_no, map_of, crate_of, parent_of, block_of, in_block as in_block_of, containing as containing_of, root_of};
+ghost use Rattle.module_tree.specs.rules.Modules.{map_no, map_of, crate_of, parent_of, block_of, in_block as in_block_of};
+ghost use Rattle.module_tree.specs.rules.Modules.{containing as containing_of, root_of};
 ghost use Rattle.module_tree.specs.rules.Modules.{own_map, crate_root};
 
 use accept::opened::Snapshot;

@@ -61,7 +61,8 @@ fn in_module(db: &Snapshot, viewer: ModuleId, target: ModuleId) -> bool
 /// Whether a visibility reaches the viewer.
 // The walk of the Rust; privacy (`seen_entries`) has arms of its own, and a theorem compares the two.
 pub fn is_visible_from(db: &Snapshot, visibility: Visibility, viewer: ModuleId) -> bool
-    requires { (viewer.0 < db.now.records.layout.modules) × (2 ≤ visibility_kind visibility → visibility_number visibility < db.now.records.layout.modules) }
+    requires { (viewer.0 < db.now.records.layout.modules)
+        × (2 ≤ visibility_kind visibility → visibility_number visibility < db.now.records.layout.modules) }
     ensures { result ≡ is_visible_from (snap_in db.now) (visibility_kind visibility)
         (visibility_number visibility) viewer.0 }
 {

@@ -65,7 +65,8 @@ module _ (s : Snapshot) (from : ℕ) (item : Item) where
   pub first_to_lem : (ps : List Path) (q : Path) → first_to s from item ps ≡ Some q → Memᴰ q ps × Names s from item q
   unfolding first_to
   first_to_lem ps q e =
-      let f = first_found_lem (λ (p : Path). is_item item (means s from (ns_of item) p)) ps q e in (f.0, is_item_lem item (means s from (ns_of item) q) f.1)
+      let f = first_found_lem (λ (p : Path). is_item item (means s from (ns_of item) p)) ps q e in
+      (f.0, is_item_lem item (means s from (ns_of item) q) f.1)
 
   pub to_first : {ps : List Path} {q : Path} → Memᴰ q ps → Names s from item q → (z : Path) × (first_to s from item ps ≡ Some z)
   unfolding first_to

@@ -28,11 +28,11 @@ abbrev pub Least : (P Q : Path → Type 0) → Option Path → Type 0
 Least P Q None = (q : Path) → Q q → ⊥
 Least P Q (Some p) = P p × ((q : Path) → Q q → names_in p ≤ names_in q)
 
-shorter_second : (p q : Path) → names_in q < names_in p → shorter (Some p) (Some q) ≡ Some q
+pub shorter_second : (p q : Path) → names_in q < names_in p → shorter (Some p) (Some q) ≡ Some q
 unfolding shorter
 shorter_second p q h = rw (shorter, lt-ltb (names_in q) (names_in p) h)
 
-shorter_first : (p q : Path) → names_in p ≤ names_in q → shorter (Some p) (Some q) ≡ Some p
+pub shorter_first : (p q : Path) → names_in p ≤ names_in q → shorter (Some p) (Some q) ≡ Some p
 unfolding shorter
 shorter_first p q h = rw (shorter, le-ltb (names_in q) (names_in p) h)
 

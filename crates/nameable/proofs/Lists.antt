@@ -19,11 +19,11 @@ pub none_some : {A : Type 0} {x : A} → None ≡ Some x → ⊥
 none_some e = let z : ◌≡◌ {A = ℕ} 0 1 = cc in omega arith
 
 module _ {A : Type 0} (p : A → Bool) where
-  first_hit : (x : A) (xs : List A) → p x ≡ true → first_of p (x ∷ xs) ≡ Some x
+  pub first_hit : (x : A) (xs : List A) → p x ≡ true → first_of p (x ∷ xs) ≡ Some x
   unfolding first_of
   first_hit x xs e = rw (first_of, e)
 
-  first_miss : (x : A) (xs : List A) → p x ≡ false → first_of p (x ∷ xs) ≡ first_of p xs
+  pub first_miss : (x : A) (xs : List A) → p x ≡ false → first_of p (x ∷ xs) ≡ first_of p xs
   unfolding first_of
   first_miss x xs e = rw (first_of, e)
 

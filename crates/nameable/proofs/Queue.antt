@@ -68,7 +68,8 @@ module _ (s : Snapshot) (from : ℕ) where
   pub onward_append : (ns : ℕ) (ws vs : List Way) → onward s from ns (ws ++ vs) ≡ onward s from ns ws ++ onward s from ns vs
   unfolding onward
   onward_append ns [] vs = refl
-  onward_append ns (w ∷ ws) vs = rw (onward_append ns ws vs) (sym (append_assoc (paths_after s from ns w) (onward s from ns ws) (onward s from ns vs)))
+  onward_append ns (w ∷ ws) vs =
+      rw (onward_append ns ws vs) (sym (append_assoc (paths_after s from ns w) (onward s from ns ws) (onward s from ns vs)))
 
   -- after a turn, what it tried adds nothing
   tried_old : (ws : List Way) (ps : List Path) → Each (Old (added s from ws ps)) ps

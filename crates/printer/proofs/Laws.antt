@@ -1,5 +1,5 @@
 -- Laws of the printed lines.
-use Prim.Native.Nat.{ℕ, suc, ◌+◌, ◌-◌, ◌%◌, ◌≤◌, ◌<◌, min}
+use Prim.Native.Nat.{ℕ, suc, ◌+◌, ◌-◌, ◌%◌, ◌≤◌, ◌<◌}
 use mathlib.Core.Path.{◌≡◌, refl, sym, ◌∙◌, ap, ap₂}
 use mathlib.Core.List.{List, ◌++◌}
 use mathlib.Core.Bool.{Bool, true, false, ◌&&◌, ◌||◌}
@@ -7,8 +7,7 @@ use native.Mathlib.Omega.{arith}
 use native.Mathlib.Nat.{sub-zero}
 use borrow.Author.Tests.{eq-eqb, ne_eqb, eqb-true, lt-ltb, le-ltb, lt-leb, ltb-true, ltb-false}
 use lib.Dec.{eqb, leb, ltb}
-use lib.ListN.{length, get_or, take, length-take}
-use lib.Seq.{length-take-le}
+use lib.ListN.{length, get_or}
 use Rattle.std.specs.Counts.{IsPrefixLen}
 use Rattle.snapshot.specs.Limits.{area_limit, input_limit}
 use Rattle.snapshot.specs.Refusals.{bytes_refusal, rest_refusal, question_refusal}
@@ -20,6 +19,7 @@ use Rattle.accept.specs.Post.{Checked, Judged}
 use Rattle.accept.proofs.Accepted.{by_test}
 use Rattle.accept.proofs.Bools.{and_left}
 use Rattle.printing.specs.Output.{Put}
+use Rattle.printing.proofs.Laws.{front_counts}
 use Rattle.find_path_spec.specs.declared.Question.{Question}
 use Rattle.find_path_spec.specs.Report.{refused}
 use Rattle.find_path_spec.specs.Line.{bytes_of, line_in, line_of, routed_line_of}
@@ -97,7 +97,8 @@ unfolding whole_at
 not_whole W i h =
     let g : length W < i + question_size = omega arith in
     rw (whole_at, lt-leb _ _ g)
-    (none_false (is_question (kind_of (get_or W i 0))) (is_argument W (i + 1) && is_argument W (i + 2)) (is_argument W (i + 3) && is_argument W (i + 4))
+    (none_false (is_question (kind_of (get_or W i 0))) (is_argument W (i + 1) && is_argument W (i + 2))
+    (is_argument W (i + 3) && is_argument W (i + 4))
     (is_argument W (i + 5) && is_argument W (i + 6)))
 
 pub question_same : (W : List ℕ) (i ns d m p o n f : ℕ) → ns ≡ get_or W (i + 1) 0 → d ≡ pay_of (get_or W i 0) → m ≡ get_or W (i + 2) 0
@@ -136,7 +137,8 @@ unfolding reach_at
 not_reach W i h =
     let g : length W < i + reach_size = omega arith in
     rw (reach_at, lt-leb _ _ g)
-    (none_false true (eqb (kind_of (get_or W i 0)) 15) (is_argument W (i + 1) && is_argument W (i + 2)) (is_argument W (i + 3) && is_argument W (i + 4)))
+    (none_false true (eqb (kind_of (get_or W i 0)) 15) (is_argument W (i + 1) && is_argument W (i + 2))
+    (is_argument W (i + 3) && is_argument W (i + 4)))
 
 pub viewer_same : (W : List ℕ) (i m p o f n : ℕ) → m ≡ pay_of (get_or W i 0) → p ≡ get_or W (i + 1) 0 → o ≡ get_or W (i + 2) 0
     → f ≡ get_or W (i + 3) 0 → n ≡ get_or W (i + 4) 0
@@ -159,17 +161,9 @@ reach_no_question W i r = by_test (whole_at W i) (λ w. absurd (both_kinds (kind
 
 -- the line of a question
 
-counts_of_lem : {old out t : List ℕ} {n : ℕ} → Put old 0 t out n → IsPrefixLen n out
-counts_of_lem {old} {out} {t} {n} p =
-    let e : length (take n out) ≡ length t = ap length p.same in
-    let q : length (take n out) ≡ min n (length out) = length-take n out in
-    let x = p.next in
-    let h : n ≤ length out = omega arith in
-    (h, sym (length-take-le n out h))
-
 pub refusal_counts : {old out : List ℕ} {n : ℕ} (k : ℕ) → ((s : Snapshot) (from : ℕ) → Put old 0 (line_in s from (refused k) ++ bytes_of "\n") out n)
     → IsPrefixLen n out
-refusal_counts k p = counts_of_lem (p empty 0)
+refusal_counts k p = front_counts (p empty 0)
 
 -- a turn
 
@@ -185,7 +179,7 @@ module _ (W S : List ℕ) (c : Checked) (i : ℕ) (A out : List ℕ) where
       record {
         rest = w.rest;
         line = w.same ∙ sym (rw (line_at, f, x));
-        counts = counts_of_lem w;
+        counts = front_counts w;
         next = sym (rw (next_at, f, x));
         checked = j;
       }
@@ -202,7 +196,7 @@ module _ (W S : List ℕ) (c : Checked) (i : ℕ) (A out : List ℕ) where
         record {
           rest = p.line.rest;
           line = p.line.same ∙ ap (λ x. line_of S x ++ bytes_of "\n") h ∙ sym (rw (line_at, whole, k));
-          counts = counts_of_lem p.line;
+          counts = front_counts p.line;
           next = sym (rw (next_at, whole));
           checked = p.checked;
         }
@@ -214,7 +208,7 @@ module _ (W S : List ℕ) (c : Checked) (i : ℕ) (A out : List ℕ) where
         record {
           rest = p.line.rest;
           line = p.line.same ∙ ap (λ x. routed_line_of S x ++ bytes_of "\n") h ∙ sym (rw (line_at, whole, k));
-          counts = counts_of_lem p.line;
+          counts = front_counts p.line;
           next = sym (rw (next_at, whole));
           checked = p.checked;
         }
@@ -228,7 +222,7 @@ module _ (W S : List ℕ) (c : Checked) (i : ℕ) (A out : List ℕ) where
       record {
         rest = p.line.rest;
         line = p.line.same ∙ ap (λ y. reach_line (reach_of S area_limit y) ++ bytes_of "\n") h ∙ sym (rw (line_at, f, x));
-        counts = counts_of_lem p.line;
+        counts = front_counts p.line;
         next = sym (rw (next_at, f, x));
         checked = p.checked;
       }

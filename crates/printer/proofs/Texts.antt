@@ -26,7 +26,8 @@ fault_text B old out zero r h e p = absurd (h refl)
 fault_text B old out (suc k) r h e p = ap (map ended) (fault_printed B k (sym e)) ∙ ap (λ t. t ∷ []) (sym (p empty 0).same)
 
 -- the texts of the turns from the first question on
-pub turns_texts : (B W : List ℕ) (k : ℕ) (c : Checked) (texts : List (List ℕ)) → W ≡ words_in B (length B / 4) → k ≡ questions_at W → input_fault B ≡ 0
+pub turns_texts : (B W : List ℕ) (k : ℕ) (c : Checked) (texts : List (List ℕ)) → W ≡ words_in B (length B / 4) → k ≡ questions_at W
+    → input_fault B ≡ 0
     → Turns W (take k W) c k texts → texts ≡ map ended (printed B)
 turns_texts B W k c texts e q f t =
     let first = subst (λ j. Turns W (take j W) c j texts) q t in
@@ -38,7 +39,8 @@ no_lines zero W S i h = refl
 no_lines (suc n) W S i h = rw (lines_from, le-ltb i (length W) h) refl
 
 -- without a question there is no text
-pub none_printed : (B W : List ℕ) (k : ℕ) → W ≡ words_in B (length B / 4) → k ≡ questions_at W → input_fault B ≡ 0 → length W ≤ k → [] ≡ map ended (printed B)
+pub none_printed : (B W : List ℕ) (k : ℕ) → W ≡ words_in B (length B / 4) → k ≡ questions_at W → input_fault B ≡ 0 → length W ≤ k
+    → [] ≡ map ended (printed B)
 unfolding printed lines_unless lines_of
 none_printed B W k e q f h =
     let V = words_in B (length B / 4) in
@@ -47,7 +49,8 @@ none_printed B W k e q f h =
     ap (map ended) (sym none) ∙ ap (λ n. map ended (lines_unless B n)) (sym f)
 
 module _ {F E : Type 0} (g : Mut F (Bor (List ℕ) × Unit {0}) (Result (Unit {0}) E)) where
-  pub took_one : (f : F) (x : Bor (List ℕ)) (r : Result (Unit {0}) E) (last : F) (texts : List (List ℕ)) → Called g f (x, tt) r last → texts ≡ x.now ∷ []
+  pub took_one : (f : F) (x : Bor (List ℕ)) (r : Result (Unit {0}) E) (last : F) (texts : List (List ℕ)) → Called g f (x, tt) r last
+      → texts ≡ x.now ∷ []
       → OnOk r (FoldsTo (λ p t q. CalledAt g p t (Ok tt) q) f texts last)
   took_one f x r last texts c e =
       on_ok r (λ o.
@@ -55,7 +58,8 @@ module _ {F E : Type 0} (g : Mut F (Bor (List ℕ) × Unit {0}) (Result (Unit {0
       (last, record { shown = x; shows = refl; called = subst (λ s. Called g f (x, tt) s last) o c }, refl)
       )
 
-  pub took_turns : (B W : List ℕ) (k : ℕ) (f last : F) (r : Result (Unit {0}) E) → W ≡ words_in B (length B / 4) → k ≡ questions_at W → input_fault B ≡ 0
+  pub took_turns : (B W : List ℕ) (k : ℕ) (f last : F) (r : Result (Unit {0}) E) → W ≡ words_in B (length B / 4) → k ≡ questions_at W
+      → input_fault B ≡ 0
       → OnOk r ((c : Checked) × (texts : List (List ℕ)) × Turns W (take k W) c k texts
       × FoldsTo (λ p t q. CalledAt g p t (Ok tt) q) f texts last)
       → OnOk r (FoldsTo (λ p t q. CalledAt g p t (Ok tt) q) f (map ended (printed B)) last)

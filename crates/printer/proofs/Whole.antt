@@ -44,7 +44,7 @@ pub fault_printed : (B : List ℕ) (n : ℕ) → input_fault B ≡ suc n → pri
 unfolding printed lines_unless
 fault_printed B n e = ap (lines_unless B) e
 
--- Document 01's listing, byte for byte: the worked snapshot, and a question.
+-- The worked input, byte for byte: the worked snapshot, and a question.
 pub listing : List ℕ
 listing =
     0x01 ∷ 0x00 ∷ 0x00 ∷ 0x10 ∷ 0x61 ∷ 0x00 ∷ 0x00 ∷ 0x00 ∷ 0x01 ∷ 0x00 ∷ 0x00 ∷ 0x10 ∷ 0x66 ∷ 0x00 ∷ 0x00 ∷ 0x00

@@ -1,5 +1,5 @@
 -- Laws of words that are read from bytes, and of text that is put into bytes.
-use Prim.Native.Nat.{ℕ, zero, suc, ◌+◌, ◌-◌, ◌≤◌, ◌<◌, ◌/◌, ◌%◌}
+use Prim.Native.Nat.{ℕ, zero, suc, ◌+◌, ◌-◌, ◌≤◌, ◌<◌, ◌/◌, ◌%◌, min}
 use mathlib.Core.Path.{◌≡◌, refl, sym, ◌∙◌, ap, ap₂, subst}
 use mathlib.Core.List.{List, [], ◌∷◌, ◌++◌, append_assoc, append-nil}
 use mathlib.Core.Bool.{Bool, true, false}
@@ -9,9 +9,10 @@ use native.Mathlib.Nat.{add-zero}
 use borrow.Author.Tests.{lt-ltb, le-ltb}
 use borrow.Rule.Slice.PartMut.{put_mid}
 use lib.Dec.{ltb}
-use lib.ListN.{length, get_or, take, drop, set, length-append, take-append-drop}
+use lib.ListN.{length, get_or, take, drop, set, length-append, length-take, take-append-drop}
 use lib.Seq.{take-suc, take-suc-set, length-take-le, drop-set-lt, drop-drop}
 use Rattle.std.proofs.lemmas.Slice.{take-put_mid, drop-put_mid}
+use Rattle.std.specs.Counts.{IsPrefixLen}
 use Rattle.snapshot.specs.Lists.{rows}
 use Rattle.snapshot.proofs.Laws.{rows_snoc}
 use Rattle.printing.specs.Output.{Put, decimal_to}
@@ -123,3 +124,12 @@ pub decimal_more : (most n : ℕ) → (most ≡ 0 → ⊥) → 10 ≤ n
 unfolding decimal_to
 decimal_more zero n h p = absurd (h refl)
 decimal_more (suc most) n h p = let e : suc most - 1 ≡ most = omega arith in rw (e, decimal_to, le-ltb _ _ p)
+
+-- a text that is put at the front is as long as the place after it says
+pub front_counts : {old new t : List ℕ} {r : ℕ} → Put old 0 t new r → IsPrefixLen r new
+front_counts {old} {new} {t} {r} p =
+    let e : length (take r new) ≡ length t = ap length p.same in
+    let q : length (take r new) ≡ min r (length new) = length-take r new in
+    let n = p.next in
+    let h : r ≤ length new = omega arith in
+    (h, sym (length-take-le r new h))

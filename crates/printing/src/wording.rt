@@ -30,8 +30,8 @@ pub fn chosen<'a>(n: u32, m: u32, text: &'a [u8], other: &'a [u8]) -> &'a [u8]
 }
 
 // What a refusal's number means; a number with no meaning of its own has that of an area.
-// By numbers: `put_refusal` takes any, and there is no `Refusal` for the others. A row of `chosen`: `Refusal::Form as u32` is no pattern, so a `match`
-// would have a guard in each of ten arms, and be no plainer.
+// By numbers: `put_refusal` takes any, and there is no `Refusal` for the others. A row of `chosen`: `Refusal::Form as u32` is no pattern, so a
+// `match` would have a guard in each of ten arms, and be no plainer.
 fn meaning(n: u32) -> &'static [u8]
     ensures { result.now ≡ meaning n }
 {

@@ -29,15 +29,12 @@ use Rattle.find_path_spec.proofs.laws.Tables.{same_snap}
 use Rattle.answer.proofs.checked.Laws.{judged_stays}
 use Rattle.reach.specs.declared.parts.Viewer.{Viewer}
 use Rattle.reach.specs.parts.Within.{Within}
-use Rattle.reach.specs.parts.Reach.{Reach, is_met, new_from, distinct, report_for, tallied, tallied_reach, tally_all, reach_in, refused_reach, reach_by, reach_unless}
+use Rattle.reach.specs.parts.Reach.{Reach, is_met, new_from, distinct, report_for, tallied, tallied_reach, tally_all, reach_in, refused_reach}
+use Rattle.reach.specs.parts.Reach.{reach_by, reach_unless}
 use Rattle.reach.specs.parts.Reach.{reach_of, query_for}
 use Rattle.reach.proofs.parts.Laws.{Limited, report_few, report_flag, tallied_long, tallied_within}
 
 -- the test of the code
-
-pub not_met : (b : Bool) → not b ≡ true → false ≡ b
-not_met true e = e
-not_met false e = refl
 
 pub met : (b : Bool) → not b ≡ false → true ≡ b
 met true e = refl

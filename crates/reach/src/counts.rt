@@ -19,8 +19,10 @@ use snapshot::records::Records;
 
 // The report for the item of the scope record with its head at a place; the tables stay.
 fn report_for(records: &Records, area: &mut Area, v: Viewer, h: usize) -> Report
-    requires reads { Reads records.now.words.now area.old records.now.layout × (v.from.0 < records.now.layout.modules) × (v.fuel ≤ fuel_limit) × (0 < v.limit) × (v.limit ≤ path_limit) }
-    requires h_bound { ((scope_at records.now.words.now h).definition < records.now.layout.definitions) × ((scope_at records.now.words.now h).ns ≤ namespace_limit) }
+    requires reads { Reads records.now.words.now area.old records.now.layout × (v.from.0 < records.now.layout.modules) × (v.fuel ≤ fuel_limit)
+        × (0 < v.limit) × (v.limit ≤ path_limit) }
+    requires h_bound { ((scope_at records.now.words.now h).definition < records.now.layout.definitions)
+        × ((scope_at records.now.words.now h).ns ≤ namespace_limit) }
     ensures value { result ≡ report_for (snap_by records.now area.old) v (scope_at records.now.words.now h) }
     ensures area_unchanged { take table_words area.new ≡ take table_words area.old }
 {
@@ -41,7 +43,8 @@ fn report_for(records: &Records, area: &mut Area, v: Viewer, h: usize) -> Report
 /// The counts of the reports for all distinct items; the tables stay.
 // `base + Size::SCOPE * k` as in a `Span`: a method for it would be this sum under a name.
 pub fn reach_in(records: &Records, area: &mut Area, v: Viewer) -> Reach
-    requires { Reads records.now.words.now area.old records.now.layout × (v.from.0 < records.now.layout.modules) × (v.fuel ≤ fuel_limit) × (0 < v.limit) × (v.limit ≤ path_limit) }
+    requires { Reads records.now.words.now area.old records.now.layout × (v.from.0 < records.now.layout.modules) × (v.fuel ≤ fuel_limit)
+        × (0 < v.limit) × (v.limit ≤ path_limit) }
     ensures value { result.counts ≡ reach_in (snap_by records.now area.old) v }
     ensures area_unchanged { take table_words area.new ≡ take table_words area.old }
 {

@@ -22,7 +22,8 @@ use Rattle.hir_def.specs.Items.{types, item_of, same_item, ns_of, module_item, d
 use Rattle.hir_def.specs.ItemScope.{get}
 use Rattle.hir_def.specs.Nameres.{prelude_of}
 use Rattle.hir_def.specs.declared.Item.{Item}
-use Rattle.read_back.specs.readings.Reads.{stands_for, meaning, entry_or, extern_named, extern_means, in_externs, prelude_means, in_prelude_of, entry_from, first_name}
+use Rattle.read_back.specs.readings.Reads.{stands_for, meaning, entry_or, extern_named, extern_means, in_externs, prelude_means, in_prelude_of, entry_from}
+use Rattle.read_back.specs.readings.Reads.{first_name}
 use Rattle.read_back.specs.readings.Reads.{variant_named, variant_in, later_name, after, looked_in, follow, plainly, absolutely, parent_means, reads_to, is_the}
 use Rattle.read_back.specs.readings.Reads.{reads_back}
 
@@ -202,7 +203,8 @@ module _ (s : Snapshot) (from ns : ℕ) (names : List ℕ) where
 
 -- a path that begins with a name
 module _ (s : Snapshot) (from ns : ℕ) (names : List ℕ) (n : ℕ) (h : n ≤ length names) where
-  pub absolute_first : {o here : Option Item} {v name : ℕ} → 0 < n → v ≡ looked_in ns (rows (λ i. get_or names i 0) 1 (n - 1)) → name ≡ get_or names 0 0
+  pub absolute_first : {o here : Option Item} {v name : ℕ} → 0 < n → v ≡ looked_in ns (rows (λ i. get_or names i 0) 1 (n - 1))
+      → name ≡ get_or names 0 0
       → here ≡ in_externs s from v name → o ≡ follow s from ns here (rows (λ i. get_or names i 0) 1 (n - 1)) → o ≡ absolutely s from ns (take n names)
   unfolding absolutely
   absolute_first {name = name} p u w q e =

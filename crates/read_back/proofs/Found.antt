@@ -32,4 +32,5 @@ pub from_fits : (W A : List ℕ) (l : Layout) → Reads W A l → (m ns name h :
     → ScopeFits (counts_in l) (scope_at W h)
 unfolding entry_from
 from_fits W A l r m ns name h e =
-    some_first (λ a. get (snap_of W A l) a ns name) (scopes_from (snap_of W A l) m) (scope_at W h) (λ a q. get_fits W A l r a ns name h (sym q)) (sym e)
+    some_first (λ a. get (snap_of W A l) a ns name) (scopes_from (snap_of W A l) m) (scope_at W h) (λ a q. get_fits W A l r a ns name h (sym q))
+    (sym e)

@@ -6,7 +6,8 @@ ghost use Rattle.snapshot.specs.Laid.{snap_by};
 ghost use Rattle.accept.specs.Opened.{snap_in};
 ghost use Rattle.hir_def.specs.ItemScope.{get as entry_named};
 ghost use Rattle.hir_def.specs.declared.Item.TheVariants.{Mod};
-ghost use Rattle.read_back.specs.readings.Reads.{meaning as meaning_of, entry_or, in_externs, in_prelude_of, first_name, variant_named, variant_in, later_name, after};
+ghost use Rattle.read_back.specs.readings.Reads.{meaning as meaning_of, entry_or, in_externs, in_prelude_of, first_name, variant_named, variant_in};
+ghost use Rattle.read_back.specs.readings.Reads.{later_name, after};
 
 use crate::blocks::entry_from;
 use crate::lookups::{extern_named, variant_named};

@@ -28,7 +28,8 @@ flag_is true = refl
 flag_is false = refl
 
 -- the report of a choice with the number a of its outcome
-pub reported_same : (s : Snapshot) (q : Query) (f : Found) (c : Choice) (m b : Bool) (a e : ℕ) → given f.choice ≡ c → m ≡ misleads s q (given f.choice)
+pub reported_same : (s : Snapshot) (q : Query) (f : Found) (c : Choice) (m b : Bool) (a e : ℕ) → given f.choice ≡ c
+    → m ≡ misleads s q (given f.choice)
     → b ≡ c.found → a ≡ outcome_by m b → e ≡ flag f.meter.empty
     → ◌≡◌ {A = Report} (record {
       outcome = a;
@@ -73,7 +74,8 @@ put_front (x ∷ old) (n ∷ ns) zero h k = refl
 put_front (x ∷ old) (n ∷ ns) (suc i) h k = ap (λ l. low n ∷ l) (put_front old ns i (omega arith) (omega arith))
 
 put_from : (old ns : List ℕ) (at i k : ℕ) → k ≡ at + i → k < length old → i < length ns
-    → set (take at old ++ (map low (take i ns) ++ drop k old)) k (low (get_or ns i 0)) ≡ take at old ++ (map low (take (suc i) ns) ++ drop (suc k) old)
+    → set (take at old ++ (map low (take i ns) ++ drop k old)) k (low (get_or ns i 0))
+    ≡ take at old ++ (map low (take (suc i) ns) ++ drop (suc k) old)
 put_from old ns zero i k e h p =
     let q : k ≡ i = omega arith in
     let g : i < length old = omega arith in

@@ -1,21 +1,25 @@
 -- What is proved of the definitions, each theorem with its whole statement; the proofs are cited. The contracts of the functions say that the code
 -- computes these definitions, for every input. A definition is in the file that its `use` line names.
-use Prim.Native.Nat.{ℕ, ◌-◌, ◌≤◌, ◌<◌}
+use Prim.Native.Nat.{ℕ, ◌+◌, ◌*◌, ◌-◌, ◌≤◌, ◌<◌}
 use mathlib.Core.Path.{◌≡◌}
-use mathlib.Core.List.{List, [], ◌∷◌, ◌++◌}
+use mathlib.Core.List.{List, [], ◌∷◌, ◌++◌, Memᴰ}
 use mathlib.Core.Bool.{true, false}
 use mathlib.Core.Logic.{◌↔◌}
-use lib.ListN.{length, take}
+use lib.Dec.{eqb}
+use lib.ListN.{length, get_or, take}
 use Rattle.snapshot.specs.Limits.{word_limit, fuel_limit}
+use Rattle.snapshot.specs.Sizes.{import_size}
 use Rattle.snapshot.specs.Lists.{any}
 use Rattle.snapshot.specs.Records.{Snapshot, Scope}
 use Rattle.check_rules.specs.Verdict.{refuse, accept, verdict}
 use Rattle.accept.specs.Valid.{Valid, Each}
 use Rattle.accept.proofs.Valid as valid
-use Rattle.module_tree.specs.rules.Visibility.{is_visible_from}
+use Rattle.module_tree.specs.rules.Visibility.{is_visible_from, sees}
 use Rattle.module_tree.specs.Privacy.{Privacy}
 use Rattle.module_tree.specs.Differs.{Exception, Known, Answers}
 use Rattle.module_tree.proofs.Private as private
+use Rattle.hir_def.specs.Finds.{select}
+use Rattle.hir_def.specs.ImportMap.{import_info_for}
 use Rattle.hir_def.specs.Items.{same_item}
 use Rattle.hir_def.specs.declared.Item.{Item}
 use Rattle.hir_def.proofs.Plain.{plainly}
@@ -45,11 +49,14 @@ use Rattle.reach.proofs.parts.Distinct as apart
 use Rattle.reach.proofs.parts.Distinct.{Apart}
 use Rattle.reports.specs.Written.{report_words, report_numbers}
 use Rattle.reports.proofs.Exact as exact
+use Rattle.nameable.specs.Seen.{seen, Seen}
 use Rattle.nameable.specs.Paths.{Path, names_in, Names, Nameable}
 use Rattle.nameable.specs.Breadth.{found, longer, nowhere, names_limit, any_path}
 use Rattle.nameable.specs.Right.{Longer, Right}
 use Rattle.nameable.proofs.Opinion as opinion
+use Rattle.nameable.proofs.Private as privately
 use Rattle.edit_rules.specs.Edits.{edited, Operation, adding, removing, edit_of}
+use Rattle.edit_rules.specs.Entries.{scopes_end}
 use Rattle.edit_rules.specs.Written.{snapshot_words, words_with}
 use Rattle.edit_rules.proofs.scope_edits.Written as written
 use Rattle.answer.specs.Answers.{zeros}
@@ -64,7 +71,8 @@ use Rattle.windows.proofs.Served as served
 use Rattle.import_rules.specs.Collect.{collected}
 use Rattle.import_rules.specs.import_words.Words as lists
 use Rattle.import_rules.proofs.import_words.Built as built
-use Rattle.join_rules.specs.Joined.{first_numbers, second_numbers, question_to, joined_as, join_of}
+use Rattle.join_rules.specs.Joined.{first_numbers, second_numbers, question_to, joined_as, join_of, joined, joined_words, together, is_within}
+use Rattle.join_rules.proofs.Joins as joins
 use Rattle.embedding.specs.Kept.{Answered, Kept}
 use Rattle.embedding.proofs.Stays as stays
 use Rattle.find_path_spec.specs.Line.{bytes_of, line_of}
@@ -90,6 +98,17 @@ accepted_written = written.accepted_written
 pub walk_is_privacy_but : (W : List ℕ) (s : Snapshot) → verdict W ≡ accept s → (k n v : ℕ) → v < length s.modules → Known s k n
     → Answers (is_visible_from s k n v) (Privacy s k n v) (Exception s k n v)
 walk_is_privacy_but = private.walk_is_privacy_but
+
+-- The same of every scope entry, whose visibility is in range.
+pub entry_is_privacy_but : (W : List ℕ) (s : Snapshot) → verdict W ≡ accept s → (d : Scope) (j v : ℕ) → j < length s.scopes → v < length s.modules
+    → Answers (sees s v (get_or s.scopes j d)) (Privacy s (get_or s.scopes j d).visibility (get_or s.scopes j d).number v)
+    (Exception s (get_or s.scopes j d).visibility (get_or s.scopes j d).number v)
+entry_is_privacy_but = private.entry_is_privacy_but
+
+-- The compiler's test of an entry, which any path goes by, is privacy in every case: the entry's own, and that of the module's declaration.
+pub seen_is : (W : List ℕ) (s : Snapshot) → verdict W ≡ accept s → (e : Scope) → Memᴰ e s.scopes → (from : ℕ) → from < length s.modules
+    → (seen s from e ≡ true) ↔ Seen s from e
+seen_is = privately.seen_is
 
 -- Fuel
 
@@ -251,7 +270,23 @@ pub built_accepted : (W : List ℕ) (s : Snapshot) (c : ℕ) → verdict W ≡ a
     → verdict (lists.words_with W s (lists.replaced s c (collected s c))) ≡ accept (lists.snapshot_with W s (lists.replaced s c (collected s c)))
 built_accepted = built.built_accepted
 
+-- The crate's imports of an item are then those of the list, in its order, and no others; another crate's are what they were, but for places.
+pub built_infos : (W : List ℕ) (s : Snapshot) (c : ℕ) (item : Item)
+    → import_info_for (lists.snapshot_with W s (lists.replaced s c (collected s c))) c item
+    ≡ select (lists.is_of s item) (lists.placed_from (scopes_end W + import_size * length (lists.others_than c s.imports)) (collected s c))
+built_infos = built.built_infos
+
+pub built_others : (W : List ℕ) (s : Snapshot) (c : ℕ) (item : Item) (d : ℕ) → eqb d c ≡ false
+    → lists.unplaced (import_info_for (lists.snapshot_with W s (lists.replaced s c (collected s c))) d item)
+    ≡ lists.unplaced (import_info_for s d item)
+built_others = built.built_others
+
 -- Two snapshots joined
+
+-- The words of two accepted snapshots joined are accepted, as the joined snapshot, where no limit is passed.
+pub joined_accepted : (W X : List ℕ) (s t : Snapshot) → verdict W ≡ accept s → verdict X ≡ accept t → is_within (together s t) ≡ true
+    → verdict (joined_words s t) ≡ accept (joined s t)
+joined_accepted = joins.joined_accepted
 
 -- Whenever a call is not refused, every question of either part that 23 does not refuse has, put with its numbers moved on the joined words, the line
 -- that it has on its part, byte for byte; the joined words are accepted as the joined snapshot.

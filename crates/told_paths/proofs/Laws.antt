@@ -16,6 +16,7 @@ use Rattle.accept.proofs.Accepted.{by_test}
 use Rattle.nameable.specs.Paths.{Path, keyword, absolute, plain, into, names_in, names_of}
 use Rattle.nameable.specs.Breadth.{names_limit, shorter}
 use Rattle.nameable.proofs.Lists.{none_some}
+use Rattle.nameable.proofs.Least as least
 use Rattle.any_path.specs.Rows.{path_from, path_at}
 use Rattle.told_paths.specs.arrivals.Steps.{Steps, LeadsTo}
 use Rattle.told_paths.specs.declared.ToldPath.{ToldPath}
@@ -49,7 +50,8 @@ module _ (p : Path) where
   unfolding told_long
   tell_count = by_length (λ h. ap (λ (t : ToldPath). t.count) (tell_few h)) (λ h. ap (λ (t : ToldPath). t.count) (tell_many h))
 
-  pub tell_made : {k : PathKind} {u c : ℕ} {N : List ℕ} → names_in p ≤ names_limit → k ≡ kind_of p → u ≡ supers_of p → N ≡ padded (names_of p) → c ≡ names_in p
+  pub tell_made : {k : PathKind} {u c : ℕ} {N : List ℕ} → names_in p ≤ names_limit → k ≡ kind_of p → u ≡ supers_of p → N ≡ padded (names_of p)
+      → c ≡ names_in p
       → record { kind = k; supers = u; names = N; count = c } ≡ tell p
   tell_made h ek eu en ec = (λ i. record { kind = ek i; supers = eu i; names = en i; count = ec i }) ∙ sym (tell_few h)
 
@@ -90,14 +92,6 @@ module _ (p : Path) (n : ℕ) {t : ToldPath} (e : t ≡ tell p) where
 
 -- The shorter of two.
 
-shorter_yes : (x y : Path) → names_in y < names_in x → shorter (Some x) (Some y) ≡ Some y
-unfolding shorter
-shorter_yes x y h = rw (shorter, lt-ltb (names_in y) (names_in x) h)
-
-shorter_no : (x y : Path) → names_in x ≤ names_in y → shorter (Some x) (Some y) ≡ Some x
-unfolding shorter
-shorter_no x y h = rw (shorter, le-ltb (names_in y) (names_in x) h)
-
 -- what is told of none, and of a path
 pub told_gone : (o : Option Path) → None ≡ option_map tell o → o ≡ None
 told_gone None e = refl
@@ -127,7 +121,7 @@ module _ (p q : Option Path) {a b : Option ToldPath} (ea : a ≡ option_map tell
         let v = told_there q (sym ey ∙ eb) in
         let cx : x.count ≡ names_in u.0 = ap (λ (t : ToldPath). t.count) u.2 ∙ tell_count u.0 in
         let cy : y.count ≡ names_in v.0 = ap (λ (t : ToldPath). t.count) v.2 ∙ tell_count v.0 in
-        let same : shorter p q ≡ q = ap₂ shorter u.1 v.1 ∙ (shorter_yes u.0 v.0 (omega (arith, h, cx, cy)) ∙ sym v.1) in
+        let same : shorter p q ≡ q = ap₂ shorter u.1 v.1 ∙ (least.shorter_second u.0 v.0 (omega (arith, h, cx, cy)) ∙ sym v.1) in
         eb ∙ sym (ap (option_map tell) same)
 
     pub shorter_keeps : x.count ≤ y.count → a ≡ option_map tell (shorter p q)
@@ -136,7 +130,7 @@ module _ (p q : Option Path) {a b : Option ToldPath} (ea : a ≡ option_map tell
         let v = told_there q (sym ey ∙ eb) in
         let cx : x.count ≡ names_in u.0 = ap (λ (t : ToldPath). t.count) u.2 ∙ tell_count u.0 in
         let cy : y.count ≡ names_in v.0 = ap (λ (t : ToldPath). t.count) v.2 ∙ tell_count v.0 in
-        let same : shorter p q ≡ p = ap₂ shorter u.1 v.1 ∙ (shorter_no u.0 v.0 (omega (arith, h, cx, cy)) ∙ sym u.1) in
+        let same : shorter p q ≡ p = ap₂ shorter u.1 v.1 ∙ (least.shorter_first u.0 v.0 (omega (arith, h, cx, cy)) ∙ sym u.1) in
         ea ∙ sym (ap (option_map tell) same)
 
 -- The path to which a step leads.

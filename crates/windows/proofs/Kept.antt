@@ -9,7 +9,8 @@ use lib.Dec.{eqb, leb}
 use lib.ListN.{length, get_or, take, drop, replicate, length-append, length-take, length-drop, length-set, get_or-append}
 use lib.Seq.{length-take-le, get_or-take, get_or-drop, get_or-append-add, get_or-set_same, get_or-set_other, ext_get_or}
 use Rattle.find_path_spec.specs.declared.Question.{Question}
-use Rattle.windows.specs.rules.States.{row_of, with_row, waits, asked_by, waiting, place_fault, placed_unless, after_place, served, after_serving, after_turn}
+use Rattle.windows.specs.rules.States.{row_of, with_row, waits, asked_by, waiting, place_fault, placed_unless, after_place, served, after_serving}
+use Rattle.windows.specs.rules.States.{after_turn}
 use Rattle.windows.proofs.state.Laws.{front_length, with_length, fault_room, fault_free, served_bound}
 
 -- other words for a window

@@ -1,4 +1,4 @@
--- Runs on document 01's worked snapshot, from the empty state on: whom the turns serve, in which order, and with which reports.
+-- Runs on the worked snapshot, from the empty state on: whom the turns serve, in which order, and with which reports.
 use Prim.Native.Nat.{ℕ}
 use mathlib.Core.Path.{◌≡◌, refl}
 use mathlib.Core.Bool.{Bool, true}

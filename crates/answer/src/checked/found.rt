@@ -39,7 +39,8 @@ fn misleads(db: &Snapshot, q: Query, choice: Option<Choice>) -> bool
 
 /// The report of the search for the item of a question, for a limit in range; the tables stay.
 pub fn report_in(records: &Records, area: &mut Area, q: Query, fuel: usize) -> Report
-    requires { Reads records.now.words.now area.old records.now.layout × (q.definition.0 < records.now.layout.definitions) × (q.from.0 < records.now.layout.modules) × (q.ns ≤ namespace_limit) × (fuel ≤ fuel_limit) × (0 < q.limit) × (q.limit ≤ path_limit) }
+    requires { Reads records.now.words.now area.old records.now.layout × (q.definition.0 < records.now.layout.definitions)
+        × (q.from.0 < records.now.layout.modules) × (q.ns ≤ namespace_limit) × (fuel ≤ fuel_limit) × (0 < q.limit) × (q.limit ≤ path_limit) }
     ensures value { result ≡ reported_of (snap_by records.now area.old) q
         (searched (snap_by records.now area.old) q fuel) }
     ensures area_unchanged { take table_words area.new ≡ take table_words area.old }

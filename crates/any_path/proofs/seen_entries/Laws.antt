@@ -2,7 +2,7 @@
 use Prim.Native.Nat.{ℕ, zero, suc, ◌<◌}
 use mathlib.Core.Path.{◌≡◌, refl, sym, ◌∙◌}
 use mathlib.Core.List.{List}
-use mathlib.Core.Bool.{Bool, true, false, ◌&&◌}
+use mathlib.Core.Bool.{Bool, true, false, ◌&&◌, and_assoc}
 use Rattle.std.specs.Prelude.{None, Some}
 use native.Mathlib.Omega.{arith}
 use borrow.Author.Tests.{eq-eqb, ne_eqb}
@@ -24,10 +24,12 @@ use Rattle.module_tree.proofs.Laws.{by_number, Falls}
 use Rattle.module_tree.proofs.Chains.{block_fits}
 use Rattle.module_tree.proofs.Reading.{length_modules}
 use Rattle.module_tree.proofs.Ways.{last_end, last_on}
+use Rattle.module_tree.proofs.Privately as privately
 use Rattle.hir_def.specs.Items.{types, module_kind, variant_kind, definition_of, home_by}
 use Rattle.hir_def.specs.ItemScope.{is_declared}
 use Rattle.hir_def.proofs.Found.{each_first}
-use Rattle.nameable.specs.Seen.{holds, holds_in, is_declaration, declared_ns, declared_as, declared_in, declaration_in, declaration_of, declaration_holds}
+use Rattle.nameable.specs.Seen.{holds, holds_in, is_declaration, declared_ns, declared_as, declared_in, declaration_in, declaration_of}
+use Rattle.nameable.specs.Seen.{declaration_holds}
 use Rattle.nameable.specs.Seen.{both_hold, counts, seen}
 
 pub and_so : (a b : Bool) → a ≡ true → b ≡ (a && b)
@@ -36,25 +38,9 @@ and_so a b e = rw e
 pub and_no : (a b : Bool) → a ≡ false → false ≡ (a && b)
 and_no a b e = rw e
 
-and_assoc : (a b c : Bool) → (a && b) && c ≡ a && (b && c)
-and_assoc true b c = refl
-and_assoc false b c = refl
-
-module _ (s : Snapshot) (t : ℕ) where
-  pub step_root : parent_of s t ≡ 0 → block_step s t ≡ block_of s t
-  unfolding block_step of_root
-  step_root z = rw z
-
-  pub step_inner : (p : ℕ) → parent_of s t ≡ suc p → block_step s t ≡ 0
-  unfolding block_step of_root
-  step_inner p z = rw z
-
 module _ (s : Snapshot) (ok : Tree s.maps s.modules) where
   pub step_falls : Falls (block_step s) (length s.modules)
-  step_falls t b r e =
-      by_number (parent_of s t)
-      (λ z. (block_fits s ok t b r (sym (step_root s t z) ∙ e)).0)
-      (λ p z. let y = step_inner s t p z in absurd (omega arith))
+  step_falls = privately.step_falls s ok
 
   pub around_here : (t : ℕ) → t < length s.modules → block_step s t ≡ 0 → t ≡ module_around s t
   unfolding module_around

@@ -25,7 +25,8 @@ pub fn block_step(db: &Snapshot, m: ModuleId) -> Option<ModuleId>
 }
 
 /// The module in which a recorded module stands: itself, or the one around the block whose map it is the root of.
-// It climbs, as the loop of `read_back::stands_for` does, to another definition; `nearest` looks for an entry on the way, and here the end is asked for.
+// It climbs, as the loop of `read_back::stands_for` does, to another definition; `nearest` looks for an entry on the way, and here the end is
+// asked for.
 pub fn module_around(db: &Snapshot, m: ModuleId) -> ModuleId
     requires { m.0 < db.now.records.layout.modules }
     ensures { (result.0 ≡ module_around (snap_in db.now) m.0) × (result.0 < db.now.records.layout.modules) }

@@ -31,7 +31,8 @@ abbrev row_set : List ℕ → ℕ → ℕ → ℕ → ℕ → List ℕ
 row_set A m x y z = set (set (set A (module_table + 3 * m) x) (module_table + 3 * m + 1) y) (module_table + 3 * m + 2) z
 
 module _ (A : List ℕ) (m x y z : ℕ) where
-  row_other : (i : ℕ) → i ≢ module_table + 3 * m → i ≢ module_table + 3 * m + 1 → i ≢ module_table + 3 * m + 2 → get_or (row_set A m x y z) i 0 ≡ get_or A i 0
+  row_other : (i : ℕ) → i ≢ module_table + 3 * m → i ≢ module_table + 3 * m + 1 → i ≢ module_table + 3 * m + 2
+      → get_or (row_set A m x y z) i 0 ≡ get_or A i 0
   row_other i p q r = get_or-set_other (set (set A (module_table + 3 * m) x) (module_table + 3 * m + 1) y) (module_table + 3 * m + 2) i z 0 r
       ∙ get_or-set_other (set A (module_table + 3 * m) x) (module_table + 3 * m + 1) i y 0 q ∙ get_or-set_other A (module_table + 3 * m) i x 0 p
 

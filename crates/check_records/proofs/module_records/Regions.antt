@@ -145,7 +145,8 @@ module _ (W A : List ℕ) (at : ℕ) (l : Layout) (ms : List Map) (st : Stands W
         → ((c : ℕ) → c < l.crates → own_map B c ≡ own_of c (ms ++ (map_at W at ∷ [])))
         → Answered W B 4 (at + map_size) (map_step (snap_with W A l ms) (map_at W at)) (Ok (map_on l at))
     unfolding map_step
-    map_on_lem B z fits kept above own = judged_on map_number z (map_added W A B at l ms st kept above) (map_stands W A B at l ms st kept above fits own)
+    map_on_lem B z fits kept above own =
+        judged_on map_number z (map_added W A B at l ms st kept above) (map_stands W A B at l ms st kept above fits own)
 
     -- a block's map: no crate's own map changes
     pub map_on_block : n ≡ 0 → at + map_size ≤ length W → ((map_at W at).block ≡ 0 → ⊥)

@@ -10,11 +10,15 @@ use borrow.Author.Tests.{eqb-true, eqb-false, ne_eqb, leb-true, leb-false}
 use Rattle.snapshot.specs.Lists.{any}
 use Rattle.snapshot.specs.Limits.{name_limit, module_limit, definition_limit}
 use Rattle.snapshot.specs.Words.{pay_of, words_of}
-use Rattle.snapshot.specs.Sizes.{crate_size, dependency_size, child_size, prelude_size, definition_size, scope_size, import_size, extern_size, member_size}
-use Rattle.snapshot.specs.Records.{Map, Snapshot, name_at, crate_at, dependency_at, map_at, module_at, child_at, prelude_at, definition_at, scope_at, import_at}
+use Rattle.snapshot.specs.Sizes.{crate_size, dependency_size, child_size, prelude_size, definition_size, scope_size, import_size, extern_size}
+use Rattle.snapshot.specs.Sizes.{member_size}
+use Rattle.snapshot.specs.Records.{Map, Snapshot, name_at, crate_at, dependency_at, map_at, module_at, child_at, prelude_at, definition_at, scope_at}
+use Rattle.snapshot.specs.Records.{import_at}
 use Rattle.snapshot.specs.Records.{extern_at, member_at}
-use Rattle.snapshot.specs.Layouts.{word_count, crate_base, dependency_base, map_base, child_base, prelude_base, definition_base, scope_base, import_base}
-use Rattle.snapshot.specs.Layouts.{extern_base, member_base, name_head, module_map, module_head, module_row, own_map, names_of, modules_of, records_of}
+use Rattle.snapshot.specs.Layouts.{word_count, crate_base, dependency_base, map_base, child_base, prelude_base, definition_base, scope_base}
+use Rattle.snapshot.specs.Layouts.{import_base}
+use Rattle.snapshot.specs.Layouts.{extern_base, member_base, name_head, module_map, module_head, module_row, own_map, names_of, modules_of}
+use Rattle.snapshot.specs.Layouts.{records_of}
 use Rattle.snapshot.specs.Layouts.{snap_with, module_table, root_table, crate_table, row_words}
 use Rattle.snapshot.specs.declared.layout.Layout.{Layout}
 use Rattle.snapshot.proofs.Laws.{rows_snoc, rows_zero, rows_ext}

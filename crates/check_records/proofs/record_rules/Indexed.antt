@@ -15,7 +15,8 @@ use Rattle.snapshot.specs.Sizes.{child_size, definition_size, scope_size, extern
 use Rattle.snapshot.specs.Records.{Name, name_at}
 use Rattle.snapshot.specs.Layouts.{child_base, definition_base, scope_base, extern_base, no_records, name_head, names_of, module_table, row_words}
 use Rattle.snapshot.specs.declared.layout.Layout.{Layout}
-use Rattle.check_records.specs.chains.Chains.{keys, name_key, record_key, slot_of, Marked, Last, Chained, linked, name_heads, scope_heads, extern_heads, child_marks}
+use Rattle.check_records.specs.chains.Chains.{keys, name_key, record_key, slot_of, Marked, Last, Chained, linked, name_heads, scope_heads, extern_heads}
+use Rattle.check_records.specs.chains.Chains.{child_marks}
 use Rattle.check_records.specs.chains.Chains.{module_marks, marks_end, name_links, scope_links, extern_links}
 use Rattle.check_records.proofs.chains.Laws.{marked_none, marked_kept, chained_kept, chained_none, chained_linked, linked_other, first_of, next_of, Walking}
 use Rattle.check_records.proofs.chains.Laws.{walk_start, walk_hit, walk_miss, walk_end_lem}
@@ -217,9 +218,11 @@ module _ (W A : List ℕ) (at n : ℕ) {key : ℕ} (ch : Chained A name_heads na
         pub names_less : d < k
         names_less = let u = further.within in omega arith
 
-        pub names_miss : r ≡ false → Walking (same_name (name_at W at)) (λ j. name_at W (name_head A j)) (λ i. name_key (name_at W (name_head A i))) key n d
+        pub names_miss : r ≡ false
+            → Walking (same_name (name_at W at)) (λ j. name_at W (name_head A j)) (λ i. name_key (name_at W (name_head A i))) key n d
         names_miss h = walk_miss _ _ _ _ _ only k w (omega arith) (is h) further
 
-  pub names_end : (k : ℕ) → Walking (same_name (name_at W at)) (λ j. name_at W (name_head A j)) (λ i. name_key (name_at W (name_head A i))) key n k → k ≡ 0
+  pub names_end : (k : ℕ) → Walking (same_name (name_at W at)) (λ j. name_at W (name_head A j)) (λ i. name_key (name_at W (name_head A i))) key n k
+      → k ≡ 0
       → false ≡ any (same_name (name_at W at)) (names_of W A n)
   names_end k w e = walk_end_lem _ _ _ _ _ only k w e

@@ -16,7 +16,8 @@ use Rattle.snapshot.specs.Records.{extern_at}
 use Rattle.snapshot.specs.Layouts.{records_of, snap_with, crate_base, definition_base, name_head, module_map, module_parent, module_row}
 use Rattle.snapshot.specs.declared.layout.Layout.{Layout}
 use Rattle.snapshot.proofs.Laws.{length_rows, get_d_rows}
-use Rattle.check_rules.specs.Tests.{Counts, counts_of, no_module, no_definition, kind_of_definition, ns_placed, same_prelude, same_definition, same_entry}
+use Rattle.check_rules.specs.Tests.{Counts, counts_of, no_module, no_definition, kind_of_definition, ns_placed, same_prelude, same_definition}
+use Rattle.check_rules.specs.Tests.{same_entry}
 use Rattle.check_rules.specs.Tests.{same_extern, scope_defined, import_defined, child_defined, child_placed, definition_defined, definition_placed}
 use Rattle.check_rules.specs.Tests.{member_defined, is_member, member_placed}
 use Rattle.check_rules.specs.Steps.{no, on, judge, judge_crate}
@@ -213,7 +214,8 @@ parent_same W A l ms x h =
     variant_same (eqb x.kind 2) x.first (and_left p q (and_left (p && q) r h))
   where
     variant_same : (v : Bool) (d : ℕ) → (not v || ltb d l.definitions && ltb x.second l.names) ≡ true
-        → (not v || eqb (definition_at W (definition_base l + definition_size * d)).kind 4) ≡ (not v || eqb (kind_of_definition (snap_with W A l ms) d) 4)
+        → (not v || eqb (definition_at W (definition_base l + definition_size * d)).kind 4)
+        ≡ (not v || eqb (kind_of_definition (snap_with W A l ms) d) 4)
     variant_same true d g = ap (λ k. eqb k 4) (kind_same W A l ms d (ltb-true _ _ (and_left (ltb d l.definitions) (ltb x.second l.names) g)))
     variant_same false d g = refl
 

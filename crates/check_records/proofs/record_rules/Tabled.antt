@@ -52,7 +52,8 @@ module _ (W A B : List ℕ) (at next : ℕ) (l : Layout) (ms : List Map) (st : S
         (rows_put (λ k. name_at W (get_or A k 0)) _ l.names (name_at W at) (λ k h. ap (name_at W) (name-old k h)) (ap (name_at W) name_new)) refl
         (rows_zero _ _ _ (st.upto.modules (lit< tt)))
 
-    name_stands : next ≡ at + 1 + words_of (pay_of (get_or W at 0)) → next ≤ length W → Indexes W B (name_on l next) → Stands W B 1 next (name_on l next) ms
+    name_stands : next ≡ at + 1 + words_of (pay_of (get_or W at 0)) → next ≤ length W → Indexes W B (name_on l next)
+        → Stands W B 1 next (name_on l next) ms
     name_stands e fits ix =
         let z_crates : l.crates ≡ 0 = st.upto.crates (lit< tt) in
         let z_maps : l.maps ≡ 0 = st.upto.maps (lit< tt) in

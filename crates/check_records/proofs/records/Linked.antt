@@ -15,7 +15,8 @@ use Rattle.snapshot.specs.Sizes.{child_size, definition_size, scope_size, extern
 use Rattle.snapshot.specs.Records.{Map, Definition, name_at, child_at, definition_at}
 use Rattle.snapshot.specs.Layouts.{child_base, definition_base, scope_base, extern_base, name_head, row_words}
 use Rattle.snapshot.specs.declared.layout.Layout.{Layout}
-use Rattle.check_records.specs.chains.Chains.{name_key, record_key, slot_of, Marked, Last, Chained, linked, keys, name_heads, scope_heads, extern_heads, child_marks}
+use Rattle.check_records.specs.chains.Chains.{name_key, record_key, slot_of, Marked, Last, Chained, linked, keys, name_heads, scope_heads, extern_heads}
+use Rattle.check_records.specs.chains.Chains.{child_marks}
 use Rattle.check_records.specs.chains.Chains.{module_marks, marks_end, name_links, scope_links, extern_links}
 use Rattle.check_records.proofs.chains.Laws.{marked_kept, marked_more, chained_kept, chained_linked, linked_other, first_of, next_of, Walking, walk_start, walk_hit}
 use Rattle.check_records.proofs.chains.Laws.{walk_miss, walk_end_lem}
@@ -274,7 +275,8 @@ module _ (W A : List ℕ) (fields at base size n heads links : ℕ) {key : ℕ} 
           pub records_less : d < k
           records_less = let u = further.within in omega arith
 
-          pub records_miss : r ≡ false → Walking (same_by W true fields at) (λ j. base + size * j) (λ i. record_key W fields (base + size * i)) key n d
+          pub records_miss : r ≡ false
+              → Walking (same_by W true fields at) (λ j. base + size * j) (λ i. record_key W fields (base + size * i)) key n d
           records_miss h = walk_miss _ _ _ _ _ only k w (omega arith) (sym er ∙ h) further
 
     pub records_end : (k : ℕ) → Walking (same_by W true fields at) (λ j. base + size * j) (λ i. record_key W fields (base + size * i)) key n k → k ≡ 0
@@ -282,5 +284,6 @@ module _ (W A : List ℕ) (fields at base size n heads links : ℕ) {key : ℕ} 
     records_end k w e = walk_end_lem _ _ _ _ _ only k w e
 
 -- of the record of the number that is met, the last field that counts lies within the words
-pub row_met : (base size : ℕ) {k n len fields : ℕ} → k ≤ n → (k ≡ 0 → ⊥) → base + size * n ≤ len → fields < size → base + size * (k - 1) + fields < len
+pub row_met : (base size : ℕ) {k n len fields : ℕ} → k ≤ n → (k ≡ 0 → ⊥) → base + size * n ≤ len → fields < size
+    → base + size * (k - 1) + fields < len
 row_met base size {k} {n} u h p q = let e = step_le size (k - 1) n (omega arith) in omega arith

@@ -16,7 +16,8 @@ use Rattle.snapshot.specs.Layouts.{prelude_base, definition_base, scope_base, ex
 use Rattle.snapshot.specs.declared.layout.Layout.{Layout}
 use Rattle.snapshot.proofs.Laws.{length_rows, get_d_rows}
 use Rattle.check_rules.specs.Tests.{counts_of, no_name, is_builtin, dependency_range, dependency_defined, child_defined, same_child, child_placed}
-use Rattle.check_rules.specs.Tests.{prelude_defined, same_prelude, definition_range, definition_defined, definition_repeated, definition_placed, scope_range}
+use Rattle.check_rules.specs.Tests.{prelude_defined, same_prelude, definition_range, definition_defined, definition_repeated, definition_placed}
+use Rattle.check_rules.specs.Tests.{scope_range}
 use Rattle.check_rules.specs.Tests.{scope_defined, same_entry, ns_placed, import_range, import_defined, extern_defined, same_extern, member_range}
 use Rattle.check_rules.specs.Tests.{member_defined, is_member, member_placed}
 use Rattle.check_rules.specs.Steps.{no, dependency_step, child_step, prelude_step, definition_step, scope_step, import_step, extern_step, member_step}
@@ -136,7 +137,8 @@ module _ (W A : List ℕ) (at : ℕ) (l : Layout) (ms : List Map) (st : Stands W
     (ec : ((definition_at W at).kind ≡ 1 → (definition_at W at).first < module_limit)
     → c ≡ ((eqb (definition_at W at).kind 1 || eqb (definition_at W at).kind 3) && any (same_by W true 1 at)
     (rows (λ k. definition_base l + definition_size * k) 0 l.definitions)))
-    (ed : d ≡ (not (eqb (definition_at W at).kind 2) || eqb (definition_at W (definition_base l + definition_size * (definition_at W at).first)).kind 4))
+    (ed : d ≡ (not (eqb (definition_at W at).kind 2) || eqb (definition_at W (definition_base l + definition_size * (definition_at W at).first)).kind
+    4))
     (ee : e ≡ ltb l.definitions definition_limit)
   where
     range_same : (v : Bool) → (not v || leb l.names (definition_at W at).first || is_builtin (name_at W (name_head A (definition_at W at).first)))

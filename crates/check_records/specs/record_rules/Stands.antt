@@ -1,15 +1,18 @@
 -- What holds while the check goes on, and what a record's step answers. Only contracts and proofs cite it.
-use Rattle.std.specs.Prelude.{ℕ, ◌+◌, ◌-◌, ◌*◌, ◌≤◌, ◌<◌, ◌≡◌, List, [], ◌∷◌, Bool, true, false, ◌&&◌, ◌||◌, not, eqb, ltb, length, get_or, Result, Ok, Err}
+use Rattle.std.specs.Prelude.{ℕ, ◌+◌, ◌-◌, ◌*◌, ◌≤◌, ◌<◌, ◌≡◌, List, [], ◌∷◌, Bool, true, false, ◌&&◌, ◌||◌, not, eqb, ltb, length, get_or, Result}
+use Rattle.std.specs.Prelude.{Ok, Err}
 use Rattle.snapshot.specs.Limits.{word_limit, crate_limit, module_limit, name_limit, definition_limit, area_limit}
 use Rattle.snapshot.specs.Refusals.{range_refusal, undefined_refusal, repeated_refusal, place_refusal, count_refusal, edition_refusal}
 use Rattle.snapshot.specs.Refusals.{refusal_number}
 use Rattle.snapshot.specs.Words.{pay_of, words_of}
 use Rattle.snapshot.specs.Sizes.{child_size, definition_size, scope_size, extern_size}
 use Rattle.snapshot.specs.Records.{Map, name_at, map_at}
-use Rattle.snapshot.specs.Layouts.{word_count, child_base, definition_base, scope_base, extern_base, name_head, module_map, module_head, map_root, own_map}
+use Rattle.snapshot.specs.Layouts.{word_count, child_base, definition_base, scope_base, extern_base, name_head, module_map, module_head, map_root}
+use Rattle.snapshot.specs.Layouts.{own_map}
 use Rattle.snapshot.specs.Layouts.{snap_with, root_table}
 use Rattle.snapshot.specs.declared.layout.Layout.{Layout}
-use Rattle.check_records.specs.chains.Chains.{name_key, record_key, slot_of, Marked, Chained, name_heads, scope_heads, extern_heads, child_marks, module_marks, name_links}
+use Rattle.check_records.specs.chains.Chains.{name_key, record_key, slot_of, Marked, Chained, name_heads, scope_heads, extern_heads, child_marks, module_marks}
+use Rattle.check_records.specs.chains.Chains.{name_links}
 use Rattle.check_records.specs.chains.Chains.{scope_links, extern_links}
 use Rattle.check_rules.specs.Tests.{Counts, no_map, is_own}
 use Rattle.check_rules.specs.Steps.{Next, no, on}

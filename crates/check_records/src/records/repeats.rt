@@ -75,7 +75,8 @@ pub fn repeated_with(
 ) -> bool
     requires chained { Chained area.now heads links (λ i. record_key words.now fields (base + size * i)) count }
     requires key_value { (key ≡ record_key words.now fields at) × (heads < 2 ^ 32) × (links < 2 ^ 32) × (1 ≤ fields) × (fields ≤ 2) }
-    requires count_in_bounds { (base + size * count ≤ length words.now) × (at + size ≤ length words.now) × (length words.now < 2 ^ 32) × (fields < size) }
+    requires count_in_bounds { (base + size * count ≤ length words.now) × (at + size ≤ length words.now)
+        × (length words.now < 2 ^ 32) × (fields < size) }
     ensures { result ≡ any (same_by words.now true fields at) (rows (λ k. base + size * k) 0 count) }
 {
     let last = payload(words, at + fields);

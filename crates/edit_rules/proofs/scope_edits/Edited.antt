@@ -40,7 +40,8 @@ found_within t W s acc h =
 
 not_found : (t : Scope → Bool) (W : List ℕ) (s : Snapshot) → verdict W ≡ accept s → any t s.scopes ≡ false → length W ≤ entry_place t W
 not_found t W s acc h =
-    by_test (ltb (entry_place t W) (length W)) (λ c. absurd (true≢false (sym (present t W s acc (ltb-true (entry_place t W) (length W) c)).there ∙ h)))
+    by_test (ltb (entry_place t W) (length W))
+    (λ c. absurd (true≢false (sym (present t W s acc (ltb-true (entry_place t W) (length W) c)).there ∙ h)))
     (λ c. ltb-false (entry_place t W) (length W) c)
 
 -- an addition that is not refused

@@ -12,7 +12,8 @@ use Rattle.snapshot.specs.Lists.{any}
 use Rattle.snapshot.specs.Refusals.{place_refusal}
 use Rattle.snapshot.specs.Words.{kind_of, pay_of, arguments_of, arguments_at}
 use Rattle.snapshot.specs.Records.{Snapshot, Scope, Import, Extern, Member, import_at, extern_at, member_at}
-use Rattle.check_rules.specs.Tests.{counts_of, same_entry, maps_filled, crates_own, import_range, import_defined, ns_placed, extern_defined, same_extern}
+use Rattle.check_rules.specs.Tests.{counts_of, same_entry, maps_filled, crates_own, import_range, import_defined, ns_placed, extern_defined}
+use Rattle.check_rules.specs.Tests.{same_extern}
 use Rattle.check_rules.specs.Tests.{member_range, member_defined, member_placed}
 use Rattle.check_rules.specs.Steps.{on, add_import, add_extern, add_member, import_step, extern_step, member_step}
 use Rattle.check_rules.specs.Verdict.{record_step, step_at, refuse, accept, finish, records}
@@ -187,7 +188,8 @@ extern_base_lem s t x e = sym (ap base (judge_on true (extern_defined (counts_of
 
 member_base_lem : (s t : Snapshot) (x : Member) → member_step s x ≡ on t → base t ≡ base s
 unfolding member_step
-member_base_lem s t x e = sym (ap base (judge_on (member_range x) (member_defined (counts_of s) x) false (member_placed s x) true (add_member s x) t e).same)
+member_base_lem s t x e =
+    sym (ap base (judge_on (member_range x) (member_defined (counts_of s) x) false (member_placed s x) true (add_member s x) t e).same)
 
 late_base : (W : List ℕ) (a k : ℕ) (s t : Snapshot) → 10 ≤ k → record_step k W a s ≡ on t → base t ≡ base s
 unfolding record_step

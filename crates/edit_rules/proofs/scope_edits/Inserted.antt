@@ -72,7 +72,7 @@ fits_small u x l r e =
 follows_scope : (last : ℕ) → last ≤ 9 → follows last 9 ≡ true
 follows_scope last h = rw (le-leb last 9 h)
 
-kind_none : (w : ℕ) → w < 268435456 → eqb (kind_of w) 0 ≡ true
+pub kind_none : (w : ℕ) → w < 268435456 → eqb (kind_of w) 0 ≡ true
 kind_none w h = eq-eqb (w / 268435456) 0 (omega arith)
 
 module _ (x : Scope) (small : Small x) where
@@ -115,7 +115,8 @@ module _ (x : Scope) (small : Small x) where
       )
 
   -- they stand at a place
-  module _ (X : List ℕ) (p : ℕ) (at : (i : ℕ) → i < scope_size → get_or X (p + i) 0 ≡ get_or (scope_words x) i 0) (fits : p + scope_size ≤ length X) where
+  module _ (X : List ℕ) (p : ℕ) (at : (i : ℕ) → i < scope_size → get_or X (p + i) 0 ≡ get_or (scope_words x) i 0)
+      (fits : p + scope_size ≤ length X) where
     here : Same (scope_words x) X 0 p (scope_size - 1)
     here i h = at i (omega arith) ∙ ap (λ j. get_or (scope_words x) j 0) (sym (zero-add i))
 

@@ -2,7 +2,7 @@
 use Prim.Native.Nat.{ℕ, ◌+◌, ◌≤◌, ◌<◌}
 use mathlib.Core.Path.{◌≡◌, refl, sym, ◌∙◌, ap}
 use mathlib.Core.List.{List, [], ◌∷◌, ◌++◌, map, append_assoc}
-use mathlib.Core.Bool.{Bool, true, false, ◌||◌}
+use mathlib.Core.Bool.{Bool, true, false, ◌||◌, or-false, or_assoc}
 use native.Mathlib.Omega.{arith}
 use lib.ListN.{length, get_or, take, drop, length-append, length-take, length-drop, take-append-drop, get_or-append}
 use lib.Seq.{get_or-take, get_or-drop, get_or-append-add, length-take-le, take_at, drop_at}
@@ -11,22 +11,14 @@ use Rattle.snapshot.specs.Records.{Scope}
 use Rattle.accept.proofs.Bools.{or_none_lem}
 use Rattle.edit_rules.specs.Entries.{lower, moved_scope, without, inserted, cut}
 
-or_assoc : (a b c : Bool) → (a || b) || c ≡ a || (b || c)
-or_assoc true b c = refl
-or_assoc false b c = refl
-
 pub any_append : {A : Type 0} (t : A → Bool) (xs ys : List A) → any t (xs ++ ys) ≡ (any t xs || any t ys)
 unfolding any
 any_append t [] ys = refl
 any_append t (x ∷ xs) ys = ap (λ b. t x || b) (any_append t xs ys) ∙ sym (or_assoc (t x) (any t xs) (any t ys))
 
-or_false : (b : Bool) → b || false ≡ b
-or_false true = refl
-or_false false = refl
-
 pub any_snoc : {A : Type 0} (t : A → Bool) (xs : List A) (y : A) → any t (xs ++ (y ∷ [])) ≡ (any t xs || t y)
 unfolding any
-any_snoc t xs y = any_append t xs (y ∷ []) ∙ ap (λ b. any t xs || b) (or_false (t y))
+any_snoc t xs y = any_append t xs (y ∷ []) ∙ ap (λ b. any t xs || b) (or-false (t y))
 
 -- records that are changed where the test does not look
 pub any_map : {A : Type 0} (t : A → Bool) (f : A → A) → ((x : A) → t (f x) ≡ t x) → (xs : List A) → any t (map f xs) ≡ any t xs

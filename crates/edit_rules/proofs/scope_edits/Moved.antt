@@ -11,17 +11,22 @@ use borrow.Author.Tests.{eqb-true, eqb-false, eq-eqb, leb-true}
 use Rattle.snapshot.specs.Lists.{any, rows}
 use Rattle.snapshot.specs.Limits.{crate_limit, module_limit, name_limit, definition_limit}
 use Rattle.snapshot.specs.Words.{kind_of, pay_of, words_of, arguments_of, arguments_at}
-use Rattle.snapshot.specs.Sizes.{crate_size, dependency_size, map_size, module_size, child_size, prelude_size, definition_size, scope_size, import_size}
+use Rattle.snapshot.specs.Sizes.{crate_size, dependency_size, map_size, module_size, child_size, prelude_size, definition_size, scope_size}
+use Rattle.snapshot.specs.Sizes.{import_size}
 use Rattle.snapshot.specs.Sizes.{extern_size, member_size}
 use Rattle.snapshot.specs.Records.{Snapshot, Name, Crate, Dependency, Map, Module, Child, Prelude, Definition, Scope, Import, Extern, Member, name_at}
-use Rattle.snapshot.specs.Records.{crate_at, dependency_at, map_at, module_at, child_at, prelude_at, definition_at, scope_at, import_at, extern_at, member_at}
+use Rattle.snapshot.specs.Records.{crate_at, dependency_at, map_at, module_at, child_at, prelude_at, definition_at, scope_at, import_at, extern_at}
+use Rattle.snapshot.specs.Records.{member_at}
 use Rattle.snapshot.proofs.Laws.{rows_ext, after_head}
-use Rattle.check_rules.specs.Tests.{child_defined, child_placed, counts_of, crate_range, is_edition, definition_defined, definition_placed, definition_range}
-use Rattle.check_rules.specs.Tests.{definition_repeated, dependency_defined, dependency_range, extern_defined, import_defined, import_range, map_defined}
+use Rattle.check_rules.specs.Tests.{child_defined, child_placed, counts_of, crate_range, is_edition, definition_defined, definition_placed}
+use Rattle.check_rules.specs.Tests.{definition_range}
+use Rattle.check_rules.specs.Tests.{definition_repeated, dependency_defined, dependency_range, extern_defined, import_defined, import_range}
+use Rattle.check_rules.specs.Tests.{map_defined}
 use Rattle.check_rules.specs.Tests.{map_placed, map_range, map_repeated, member_defined, member_placed, member_range, module_defined, module_placed}
 use Rattle.check_rules.specs.Tests.{name_range, ns_placed, prelude_defined, same_child, same_extern, same_name, same_prelude}
 use Rattle.check_rules.specs.Steps.{Next, on, judge, add_name, add_crate, add_dependency, add_map, add_module, add_child, add_prelude, add_definition}
-use Rattle.check_rules.specs.Steps.{add_import, add_extern, add_member, name_step, crate_step, dependency_step, map_step, module_step, child_step, prelude_step}
+use Rattle.check_rules.specs.Steps.{add_import, add_extern, add_member, name_step, crate_step, dependency_step, map_step, module_step, child_step}
+use Rattle.check_rules.specs.Steps.{prelude_step}
 use Rattle.check_rules.specs.Steps.{definition_step, import_step, extern_step, member_step}
 use Rattle.check_rules.specs.Verdict.{record_step}
 use Rattle.accept.proofs.Accepted.{by_test, judge_on, judge_crate_on}
@@ -42,7 +47,8 @@ module _ (W X : List ℕ) (a b : ℕ) where
   name_same h =
       let e = same_head W X a b _ h in
       let n = ap pay_of e in
-      let t : rows (λ i. get_or X (b + 1 + i) 0) 0 (words_of (pay_of (get_or W a 0))) ≡ rows (λ i. get_or W (a + 1 + i) 0) 0 (words_of (pay_of (get_or W a 0))) =
+      let t : rows (λ i. get_or X (b + 1 + i) 0) 0 (words_of (pay_of (get_or W a 0)))
+      ≡ rows (λ i. get_or W (a + 1 + i) 0) 0 (words_of (pay_of (get_or W a 0))) =
       rows_ext _ _ _ (λ i k. sym (after_head X b i) ∙ h (1 + i) (omega arith) ∙ after_head W a i) in
       let u = ap (λ m. rows (λ i. get_or X (b + 1 + i) 0) 0 (words_of m)) n ∙ t in
       λ i. record { bytes = n i; text = u i }
@@ -247,7 +253,8 @@ module _ (W X : List ℕ) (m : ℕ → ℕ) (a b k : ℕ) (to : b ≡ m a) (stil
     moved_to step x y e q = (q.0, ap (step (with_scopes m s ys)) e ∙ q.1)
 
     sized : (n : ℕ) → eqb k n ≡ true → Same W X a b (arguments_of n (pay_of (get_or W a 0)))
-    sized n e = let q = arguments_are W a k here ∙ ap (λ x. arguments_of x (pay_of (get_or W a 0))) (eqb-true k n e) in subst (λ m. Same W X a b m) q h
+    sized n e =
+        let q = arguments_are W a k here ∙ ap (λ x. arguments_of x (pay_of (get_or W a 0))) (eqb-true k n e) in subst (λ m. Same W X a b m) q h
 
     pub other_moved : eqb k 9 ≡ false → leb k 13 ≡ true → eqb k 12 ≡ false → leb 1 k ≡ true → record_step k W a s ≡ on t
         → Kept m k s t ys (record_step k X b)

@@ -66,7 +66,8 @@ there_is t W u acc =
     (λ c. absent t W u acc (ltb-false (entry_place t W) (length W) c) ∙ sym c)
 
 -- the tests of an entry, on the words of an accepted snapshot
-pub entry_judged : (W A : List ℕ) (l : Layout) (E : List ℕ) {n ns d : ℕ} {a b p : Bool} → n ≡ number_of a b false p true → a ≡ scope_range (entry_of E)
+pub entry_judged : (W A : List ℕ) (l : Layout) (E : List ℕ) {n ns d : ℕ} {a b p : Bool} → n ≡ number_of a b false p true
+    → a ≡ scope_range (entry_of E)
     → b ≡ scope_defined (counts_in l) (entry_of E) → ns ≡ get_or E 1 0 → d ≡ get_or E 3 0
     → p ≡ (not (eqb ns 2) || eqb (definition_at W (definition_base l + definition_size * d)).kind 5)
     → n ≡ number_of (scope_range (entry_of E)) (scope_defined (counts_of (snap_of W A l)) (entry_of E)) false

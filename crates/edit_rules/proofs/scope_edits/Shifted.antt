@@ -36,7 +36,8 @@ module _ (W : List ℕ) (at count : ℕ) (h : at + scope_size ≤ count) (g : co
   pub moved_down : paste W at (drop (at + scope_size) W) (count - (at + scope_size)) ≡ cut at scope_size (take count W) ++ drop (count - scope_size) W
   moved_down =
       let e : at + (count - (at + scope_size)) ≡ count - scope_size = omega arith in
-      ap₂ (λ x y. x ++ y ++ drop (at + (count - (at + scope_size))) W) (sym (take-take at count W (omega arith))) (between_is W (at + scope_size) count)
+      ap₂ (λ x y. x ++ y ++ drop (at + (count - (at + scope_size))) W) (sym (take-take at count W (omega arith)))
+      (between_is W (at + scope_size) count)
       ∙ ap (λ n. cut at scope_size (take count W) ++ drop n W) e
 
 -- a record written over the words at a place

@@ -7,7 +7,7 @@ use native.Mathlib.Omega.{arith}
 use native.Mathlib.Nat.{add-zero}
 use lib.Dec.{eqb, leb, ltb}
 use lib.ListN.{length, get_or}
-use borrow.Author.Tests.{eqb-true, ltb-true, lt-ltb, leb-true, le-leb, not-true}
+use borrow.Author.Tests.{eqb-true, lt-ltb, leb-true, le-leb, not-true}
 use Rattle.snapshot.specs.Lists.{any}
 use Rattle.snapshot.specs.Refusals.{form_refusal}
 use Rattle.snapshot.specs.Words.{kind_of, pay_of, arguments_of, arguments_at}
@@ -18,6 +18,7 @@ use Rattle.check_rules.specs.Steps.{Next, on, need, add_scope, scope_step}
 use Rattle.check_rules.specs.Verdict.{follows, arguments_from, record_step, step_at}
 use Rattle.accept.proofs.Accepted.{by_test, Taken, judge_on}
 use Rattle.accept.proofs.Bools.{and_four, and_three, and_two, or_right}
+use Rattle.accept.proofs.Turns.{arguments_fit}
 use Rattle.edit_rules.specs.Entries.{moved_scope, with_scopes}
 use Rattle.edit_rules.proofs.scope_edits.Moved.{Same, same_head, scope_same, other_moved, arguments_are}
 
@@ -46,15 +47,6 @@ module _ (last k : ℕ) (h : follows last k ≡ true) where
       let r = eqb-true last 5 q.0 in omega arith)
 
 -- the arguments
-
-pub arguments_within : (W : List ℕ) (i n : ℕ) → i ≤ length W → arguments_from W i n ≡ true → i + n ≤ length W
-unfolding arguments_from
-arguments_within W i zero h e = omega arith
-arguments_within W i (suc n) h e =
-    let q = and_three (ltb i (length W)) (eqb (kind_of (get_or W i 0)) 0) (arguments_from W (i + 1) n) e in
-    let l = ltb-true i (length W) q.0 in
-    let r = arguments_within W (i + 1) n (omega arith) q.2 in
-    omega arith
 
 pub arguments_same : (W X : List ℕ) (i j n : ℕ) → ((d : ℕ) → d < n → get_or X (j + d) 0 ≡ get_or W (i + d) 0) → j + n ≤ length X
     → arguments_from W i n ≡ true → arguments_from X j n ≡ true
@@ -94,7 +86,7 @@ module _ (W : List ℕ) (a last : ℕ) (s t : Snapshot) where
   taken_step q = rw (step_at, q.order, q.whole) q.step
 
   pub taking_within : Taking W a last s t → a < length W → a + 1 + arguments_at W a ≤ length W
-  taking_within q h = arguments_within W (a + 1) (arguments_at W a) (omega arith) q.whole
+  taking_within q h = arguments_fit W (a + 1) (arguments_at W a) (omega arith) q.whole
 
 -- the step of a scope record
 pub scope_kind_lem : (W : List ℕ) (a k : ℕ) (s : Snapshot) → k ≡ 9 → record_step k W a s ≡ scope_step s (scope_at W a)
@@ -149,7 +141,8 @@ module _ (W X : List ℕ) (m : ℕ → ℕ) (R : List Scope → List Scope → T
             (ys, subst (λ xs. R xs ys) (sym q.0.0) rel, q.1))
 
         -- a record that is taken in W is taken in X
-        pub step_moved : (last next : ℕ) → follows next (kind_of (get_or W a 0)) ≡ true → b + 1 + arguments_at W a ≤ length X → step_at W a last s ≡ on t
+        pub step_moved : (last next : ℕ) → follows next (kind_of (get_or W a 0)) ≡ true → b + 1 + arguments_at W a ≤ length X
+            → step_at W a last s ≡ on t
             → (zs : List Scope) × R t.scopes zs × (step_at X b next (with_scopes m s ys) ≡ on (with_scopes m t zs))
         step_moved last next o fits e =
             let q = taking W a last s t e in

@@ -12,15 +12,19 @@ use borrow.Author.Tests.{eqb-true, eq-eqb, ne_eqb, ltb-true, ltb-false, leb-true
 use Rattle.snapshot.specs.Lists.{all, any, rows}
 use Rattle.snapshot.specs.Limits.{crate_limit, module_limit, name_limit, definition_limit}
 use Rattle.snapshot.specs.Words.{kind_of, pay_of, words_of, arguments_of, arguments_at}
-use Rattle.snapshot.specs.Records.{Map, Module, Snapshot, name_at, crate_at, dependency_at, map_at, module_at, child_at, prelude_at, definition_at, scope_at}
+use Rattle.snapshot.specs.Records.{Map, Module, Snapshot, name_at, crate_at, dependency_at, map_at, module_at, child_at, prelude_at, definition_at}
+use Rattle.snapshot.specs.Records.{scope_at}
 use Rattle.snapshot.specs.Records.{import_at, extern_at, member_at}
 use Rattle.snapshot.proofs.Laws.{rows_part, rows_ext, after_head}
-use Rattle.check_rules.specs.Tests.{child_defined, child_placed, counts_of, crate_range, is_edition, definition_defined, definition_placed, definition_range}
+use Rattle.check_rules.specs.Tests.{child_defined, child_placed, counts_of, crate_range, is_edition, definition_defined, definition_placed}
+use Rattle.check_rules.specs.Tests.{definition_range}
 use Rattle.check_rules.specs.Tests.{definition_repeated, dependency_defined, dependency_range, extern_defined, import_defined, import_range, is_in}
 use Rattle.check_rules.specs.Tests.{map_defined, map_placed, map_range, map_repeated, member_defined, member_placed, member_range, module_defined}
-use Rattle.check_rules.specs.Tests.{module_placed, map_of, name_range, ns_placed, prelude_defined, same_child, same_entry, same_extern, same_name, same_prelude}
+use Rattle.check_rules.specs.Tests.{module_placed, map_of, name_range, ns_placed, prelude_defined, same_child, same_entry, same_extern, same_name}
+use Rattle.check_rules.specs.Tests.{same_prelude}
 use Rattle.check_rules.specs.Tests.{scope_defined, scope_range}
-use Rattle.check_rules.specs.Steps.{on, add_name, add_crate, add_dependency, add_map, add_module, add_child, add_prelude, add_definition, add_scope, add_import}
+use Rattle.check_rules.specs.Steps.{on, add_name, add_crate, add_dependency, add_map, add_module, add_child, add_prelude, add_definition, add_scope}
+use Rattle.check_rules.specs.Steps.{add_import}
 use Rattle.check_rules.specs.Steps.{add_extern, add_member, name_step, crate_step, dependency_step, map_step, module_step, child_step, prelude_step}
 use Rattle.check_rules.specs.Steps.{definition_step, scope_step, import_step, extern_step, member_step}
 use Rattle.check_rules.specs.Verdict.{follows, record_step, accept, records, empty, verdict}
@@ -28,8 +32,10 @@ use Rattle.accept.specs.Valid.{Each, none, more}
 use Rattle.accept.proofs.Accepted.{by_test, judge_on, judge_crate_on}
 use Rattle.accept.proofs.Bools.{and_two, and_four, all_below, each_map, each_snoc, length_snoc, or_right, unless_right}
 use Rattle.edit_rules.specs.Entries.{scope_words}
-use Rattle.edit_rules.specs.Written.{head_of, name_words, crate_words, dependency_words, map_words, module_words, child_words, prelude_words, definition_words}
-use Rattle.edit_rules.specs.Written.{import_words, extern_words, member_words, each_words, words_within, tree_words, kinds_words, joined, snapshot_words}
+use Rattle.edit_rules.specs.Written.{head_of, name_words, crate_words, dependency_words, map_words, module_words, child_words, prelude_words}
+use Rattle.edit_rules.specs.Written.{definition_words}
+use Rattle.edit_rules.specs.Written.{import_words, extern_words, member_words, each_words, words_within, tree_words, kinds_words, joined}
+use Rattle.edit_rules.specs.Written.{snapshot_words}
 use Rattle.edit_rules.proofs.scope_edits.Moved.{arguments_are, above, equal}
 use Rattle.edit_rules.proofs.scope_edits.Stepped.{Taking, taking, taking_within, follows_parts}
 use Rattle.edit_rules.proofs.scope_edits.Folded.{records_done, next_record}

@@ -14,7 +14,11 @@ slice_bounds-check-end c = sym (length-take-le _ c.args.words.now c.if-words-cou
 
 pub returns-in_err-check : goal.returns-in_err-check
 returns-in_err-check c =
-    rw (err_is _ _ c.from_residual.ensures.1) (opens_front c.args.words.now c.args.count c.args.area.now _ (omega (arith, c.told-area)) c.if-words-count.false c.told-area (Err _) c.in_err-check.ensures)
+    rw (err_is _ _ c.from_residual.ensures.1)
+    (opens_front c.args.words.now c.args.count c.args.area.now _ (omega (arith, c.told-area)) c.if-words-count.false c.told-area
+    (Err _) c.in_err-check.ensures)
 
 pub returns : goal.returns
-returns c = opens_front c.args.words.now c.args.count c.args.area.now _ (omega (arith, c.told-area)) c.if-words-count.false c.told-area (Ok _) c.in_ok-check.ensures
+returns c =
+    opens_front c.args.words.now c.args.count c.args.area.now _ (omega (arith, c.told-area)) c.if-words-count.false c.told-area
+    (Ok _) c.in_ok-check.ensures

@@ -15,7 +15,8 @@ use Rattle.check_rules.specs.Verdict.{accept, verdict}
 use Rattle.printing.specs.Input.{words_in}
 use Rattle.find_path_spec.specs.declared.Question.{Question}
 use Rattle.find_path_spec.specs.Line.{line_of}
-use Rattle.printer.specs.Printed.{is_head, first_from, questions_at, whole_at, question_at, line_at, next_at, lines_from, lines_of, lines_unless, input_fault}
+use Rattle.printer.specs.Printed.{is_head, first_from, questions_at, whole_at, question_at, line_at, next_at, lines_from, lines_of, lines_unless}
+use Rattle.printer.specs.Printed.{input_fault}
 use Rattle.printer.specs.Printed.{printed}
 use Rattle.printer.proofs.Laws.{no_fault, question_same}
 use Rattle.embedding.specs.joined_lines.Inputs.{number_limit, question_words, Writable, Asks, Room}

@@ -18,7 +18,8 @@ use Rattle.accept.proofs.Valid.{accepted_valid}
 use Rattle.hir_def.specs.Finds.{select}
 use Rattle.find_path_spec.proofs.laws.Walks.{select_hit, select_miss}
 use Rattle.edit_rules.specs.Entries.{scope_words}
-use Rattle.edit_rules.specs.Written.{name_words, crate_words, dependency_words, child_words, prelude_words, definition_words, import_words, extern_words}
+use Rattle.edit_rules.specs.Written.{name_words, crate_words, dependency_words, child_words, prelude_words, definition_words, import_words}
+use Rattle.edit_rules.specs.Written.{extern_words}
 use Rattle.edit_rules.specs.Written.{member_words, each_words, words_within, tree_words, snapshot_words}
 use Rattle.edit_rules.specs.Written as written
 use Rattle.edit_rules.proofs.scope_edits.Written.{accepted_written}
@@ -229,7 +230,8 @@ module _ (s t : Snapshot) (v : Valid s) (w : Valid t) (sw : Whole s) (tw : Whole
       by_test (same_name (get_or ys j no_name) x)
       (λ b.
       let q : get_or ys i no_name ≡ get_or ys j no_name = name_equal (get_or ys i no_name) x a ∙ sym (name_equal (get_or ys j no_name) x b) in
-      let r : same_name (get_or ys j no_name) (get_or ys i no_name) ≡ true = ap (λ y. same_name (get_or ys j no_name) y) q ∙ name_refl (get_or ys j no_name) in
+      let r : same_name (get_or ys j no_name) (get_or ys i no_name) ≡ true = ap (λ y. same_name (get_or ys j no_name) y) q
+      ∙ name_refl (get_or ys j no_name) in
       absurd (false≢true (sym (w.once.names i j h l) ∙ r)))
       (λ b. b)
 

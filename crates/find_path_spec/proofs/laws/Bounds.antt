@@ -18,18 +18,23 @@ use Rattle.hir_def.specs.declared.Item.TheVariants.{Mod, Def}
 use Rattle.find_path_choice.specs.Choices.{Choice}
 use Rattle.find_path_spec.specs.declared.FindPathCtx.{FindPathCtx}
 use Rattle.find_path_spec.specs.declared.Query.{Query}
-use Rattle.find_path_choice.specs.Choices.{name_len, path_kind_len, plain_path, crate_path, nothing, keyword, choice_new, extended, push, unstably, better}
+use Rattle.find_path_choice.specs.Choices.{name_len, path_kind_len, plain_path, crate_path, nothing, keyword, choice_new, extended, push, unstably}
+use Rattle.find_path_choice.specs.Choices.{better}
 use Rattle.find_path_choice.specs.Choices.{try_select}
 use Rattle.find_path_spec.specs.Walk.{Level}
-use Rattle.find_path_spec.specs.Rules.{by_crate, may_be_in_scope, prefix_path_kind, context_of, first_found, single, scope_rule, prelude_rule, extern_name, root_rule}
+use Rattle.find_path_spec.specs.Rules.{by_crate, may_be_in_scope, prefix_path_kind, context_of, first_found, single, scope_rule, prelude_rule, extern_name}
+use Rattle.find_path_spec.specs.Rules.{root_rule}
 use Rattle.find_path_spec.specs.Rules.{keyword_of, module_rules, is_kw_kind_relative_to_from, find_in_scope}
 use Rattle.find_path_spec.specs.Local.{LocalSearch, offer, offer_entry, importable_name, location, each_location, calculate_best_path_local, or_local}
 use Rattle.find_path_spec.specs.Local.{find_path_for_module_local}
 use Rattle.find_path_spec.specs.Meters.{Charged, go, stop, Charge}
-use Rattle.find_path_spec.specs.Charged.{Out, Search, Inner, langs, one_or_none, variant_of, push_variant, offer_import, find_import, find_imports, find_in_dep}
-use Rattle.find_path_spec.specs.Charged.{find_in_deps, find_in_sysroot, go_on, after_charge, calculate_best_path, or_charged, find_path_for_module, after_enum, via_enum}
+use Rattle.find_path_spec.specs.Charged.{Out, Search, Inner, langs, one_or_none, variant_of, push_variant, offer_import, find_import, find_imports}
+use Rattle.find_path_spec.specs.Charged.{find_in_dep}
+use Rattle.find_path_spec.specs.Charged.{find_in_deps, find_in_sysroot, go_on, after_charge, calculate_best_path, or_charged, find_path_for_module}
+use Rattle.find_path_spec.specs.Charged.{after_enum, via_enum}
 use Rattle.find_path_spec.specs.Charged.{or_enum, by_name, of_module, find_path_inner}
-use Rattle.find_path_spec.specs.Search.{builtin_choice, local_to, search_local, best_local, module_to, search_module, item_to, search_item, from_home, from_item}
+use Rattle.find_path_spec.specs.Search.{builtin_choice, local_to, search_local, best_local, module_to, search_module, item_to, search_item, from_home}
+use Rattle.find_path_spec.specs.Search.{from_item}
 use Rattle.find_path_spec.specs.Search.{find_path}
 use Rattle.find_path_spec.proofs.laws.Unfold.{length_falls}
 
@@ -288,7 +293,8 @@ module _ (M : Type 0) (charge : Charge M) (s : Snapshot) where
         → Fits s (suc l) (find_in_deps M charge s x here rec (suc l) item o ds).choice
     unfolding find_in_deps find_in_dep
     deps_fit l item o [] f = f
-    deps_fit l item o (d ∷ ds) f = deps_fit l item (find_in_dep M charge s x here rec (suc l) item o d) ds (imports_fit l o (import_info_for s d.crate item) f)
+    deps_fit l item o (d ∷ ds) f =
+        deps_fit l item (find_in_dep M charge s x here rec (suc l) item o d) ds (imports_fit l o (import_info_for s d.crate item) f)
 
     pub sysroot_fits : (l : ℕ) (item : Item) (o : Out M) (ls : List ℕ) (b : Bool) → Fits s (suc l) o.choice
         → Fits s (suc l) (find_in_sysroot M charge s x here rec (suc l) item o ls b).choice
@@ -297,7 +303,8 @@ module _ (M : Type 0) (charge : Charge M) (s : Snapshot) where
     sysroot_fits l item o [] false f = deps_fit l item o (sysroot_first s x.from_crate.0) f
     sysroot_fits l item o (n ∷ ls) true f = f
     sysroot_fits l item o (n ∷ ls) false f =
-        sysroot_fits l item (find_in_deps M charge s x here rec (suc l) item o (one_or_none (lang_of s x.from_crate.0 n))) ls _ (deps_fit l item o (one_or_none (lang_of s x.from_crate.0 n)) f)
+        sysroot_fits l item (find_in_deps M charge s x here rec (suc l) item o (one_or_none (lang_of s x.from_crate.0 n))) ls _
+        (deps_fit l item o (one_or_none (lang_of s x.from_crate.0 n)) f)
 
     go_fits : (l : ℕ) (item : Item) (t : M) (a b : Bool) → Fits s (suc l) (go_on M charge s x here rec (suc l) item t a b).choice
     unfolding go_on

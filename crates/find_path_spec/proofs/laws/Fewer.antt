@@ -12,7 +12,7 @@ use Rattle.snapshot.specs.Lists.{any}
 use Rattle.snapshot.specs.Records.{Snapshot}
 use Rattle.hir_def.specs.Finds.{select}
 use Rattle.find_path_spec.specs.Walk.{has, start_from, leads_to, unmet, walk, find_local_import_locations}
-use Rattle.find_path_spec.proofs.laws.Walks.{select_hit, select_miss, select_short, has_snoc, walk_skip, walk_take, untaken, leads_fall}
+use Rattle.find_path_spec.proofs.laws.Walks.{select_hit, select_miss, select_short, unmet_short, has_snoc, walk_skip, walk_take, untaken, leads_fall}
 
 pub either : (a b : Bool) → a || b ≡ true → (a ≡ true) ⊎ (b ≡ true)
 either true b e = inl refl
@@ -152,10 +152,6 @@ module _ (next : ℕ → List ℕ) (seen : ℕ → Bool) (size : List ℕ → �
             (λ k. w.closed n v a (has_snoc d m n ∙ or_none_lem _ _ b k) c) (tested (eqb n m));
       }
 
-  unmet_short : (d ms : List ℕ) → length (unmet seen d ms) ≤ length ms
-  unfolding unmet
-  unmet_short d ms = select_short _ ms
-
   abbrev WholeIn : ℕ → Type 0
   WholeIn b = (d ws : List ℕ) → length ws + size d ≤ b → Whole next seen d ws (walk next seen b d ws)
 
@@ -166,7 +162,7 @@ module _ (next : ℕ → List ℕ) (seen : ℕ → Bool) (size : List ℕ → �
       let d' = d ++ (m ∷ []) in
       let u = unmet seen d' (next m) in
       let l : length (ws ++ u) ≡ length ws + length u = length-append ws u in
-      let o : length u ≤ length (next m) = unmet_short d' (next m) in
+      let o : length u ≤ length (next m) = unmet_short seen d' (next m) in
       let q : size d' + length (next m) ≤ size d = falls d m (or_both (seen m) (has d m) e).1 in
       rw (walk_take next seen size falls b d m ws e) (whole_take d m ws _ (ih d' (ws ++ u) (omega arith)))
 
@@ -216,7 +212,8 @@ module _ (s : Snapshot) (from : ℕ) (seen seen' : ℕ → Bool) where
   walk_same h = ap (find_local_import_locations s from) (λ i m. h m i)
 
   -- A walk past more takes no others.
-  pub walk_fewer : ((m : ℕ) → seen m ≡ true → seen' m ≡ true) → Within (find_local_import_locations s from seen') (find_local_import_locations s from seen)
+  pub walk_fewer : ((m : ℕ) → seen m ≡ true → seen' m ≡ true)
+      → Within (find_local_import_locations s from seen') (find_local_import_locations s from seen)
   unfolding find_local_import_locations
   walk_fewer more =
       let a : untaken s.scopes [] ≤ length s.scopes = select_short _ s.scopes in

@@ -1,4 +1,4 @@
--- Demand 3.
+-- One question with two fuels: where its two reports are equal, and what each says where they are not.
 use mathlib.Core.Path.{◌≡◌, refl, ap, sym, ◌∙◌}
 use mathlib.Core.List.{List, [], ◌∷◌, ◌++◌}
 use mathlib.Core.Bool.{false}
@@ -206,7 +206,7 @@ compared words area q F G s lt e f g =
       larger = tg;
     }
 
--- Demand 3. Put one question twice to the same words of a snapshot, with the fuels F < G ≤ 10,000, so that neither report
+-- Put one question twice to the same words of a snapshot, with the fuels F < G ≤ 10,000, so that neither report
 -- is refused. Let n be the number of charges that the search without a tank makes for it. Then
 -- (a) the two reports are equal in every field exactly when n is at most F;
 -- (b) each report counts the smaller of its fuel and n;

@@ -11,13 +11,13 @@ use Rattle.hir_def.specs.declared.Item.{Item}
 use Rattle.hir_def.specs.declared.Item.TheVariants.{Mod, Def}
 use Rattle.find_path_choice.specs.Choices.{Choice}
 use Rattle.find_path_spec.specs.declared.FindPathCtx.{FindPathCtx}
-use Rattle.find_path_spec.specs.declared.Query.{Query}
-use Rattle.find_path_spec.specs.Rules.{context_of}
 use Rattle.find_path_spec.specs.Meters.{Charged, go, stop, Charge}
-use Rattle.find_path_spec.specs.Charged.{Out, Search, Inner, langs, one_or_none, variant_of, find_import, find_imports, find_in_dep, find_in_deps, find_in_sysroot}
-use Rattle.find_path_spec.specs.Charged.{go_on, after_charge, calculate_best_path, or_charged, find_path_for_module, after_enum, via_enum, or_enum, by_name, of_module}
+use Rattle.find_path_spec.specs.Charged.{Out, Search, Inner, langs, one_or_none, variant_of, find_import, find_imports, find_in_dep, find_in_deps}
+use Rattle.find_path_spec.specs.Charged.{find_in_sysroot}
+use Rattle.find_path_spec.specs.Charged.{go_on, after_charge, calculate_best_path, or_charged, find_path_for_module, after_enum, via_enum, or_enum}
+use Rattle.find_path_spec.specs.Charged.{by_name, of_module}
 use Rattle.find_path_spec.specs.Charged.{find_path_inner}
-use Rattle.find_path_spec.specs.Search.{best_local, module_to, search_module, item_to, search_item, from_home, from_item, find_path}
+use Rattle.find_path_spec.specs.Search.{best_local, module_to, search_module, item_to}
 
 -- the meter after a charge
 abbrev pub left_by : {M : Type 0} → Charged M → M
@@ -47,7 +47,8 @@ module _ (M : Type 0) (charge : Charge M) (s : Snapshot) (P : M → Type 0) (kep
         → P (find_in_deps M charge s x here rec left item o ds).meter
     unfolding find_in_deps find_in_dep
     deps_keep left item o [] h = h
-    deps_keep left item o (d ∷ ds) h = deps_keep left item (find_in_dep M charge s x here rec left item o d) ds (imports_keep left o (import_info_for s d.crate item) h)
+    deps_keep left item o (d ∷ ds) h =
+        deps_keep left item (find_in_dep M charge s x here rec left item o d) ds (imports_keep left o (import_info_for s d.crate item) h)
 
     pub sysroot_keeps : (left : ℕ) (item : Item) (o : Out M) (ls : List ℕ) (b : Bool) → P o.meter
         → P (find_in_sysroot M charge s x here rec left item o ls b).meter
@@ -56,7 +57,8 @@ module _ (M : Type 0) (charge : Charge M) (s : Snapshot) (P : M → Type 0) (kep
     sysroot_keeps left item o [] false h = deps_keep left item o (sysroot_first s x.from_crate.0) h
     sysroot_keeps left item o (l ∷ ls) true h = h
     sysroot_keeps left item o (l ∷ ls) false h =
-        sysroot_keeps left item (find_in_deps M charge s x here rec left item o (one_or_none (lang_of s x.from_crate.0 l))) ls _ (deps_keep left item o (one_or_none (lang_of s x.from_crate.0 l)) h)
+        sysroot_keeps left item (find_in_deps M charge s x here rec left item o (one_or_none (lang_of s x.from_crate.0 l))) ls _
+        (deps_keep left item o (one_or_none (lang_of s x.from_crate.0 l)) h)
 
     pub go_keeps : (left : ℕ) (item : Item) (t : M) (a b : Bool) → P t → P (go_on M charge s x here rec left item t a b).meter
     unfolding go_on
@@ -124,17 +126,3 @@ module _ (M : Type 0) (charge : Charge M) (s : Snapshot) (P : M → Type 0) (kep
     item_to_keeps zero item t h = h
     item_to_keeps (suc d) item t h =
         item_keeps x (best_local s x) (search_module M charge s x) module_search_keeps (item_to M charge s x d) (item_to_keeps d) item t h
-
-  home_keeps : (q : Query) (item : Item) (t : M) (h : ℕ) → P t → P (from_home M charge s q item t h).meter
-  unfolding from_home search_item
-  home_keeps q item t zero h = h
-  home_keeps q item t (suc home) h = item_to_keeps (context_of s q home) 2 item t h
-
-  item_start_keeps : (q : Query) (t : M) (b : Bool) → P t → P (from_item M charge s q t b).meter
-  unfolding from_item
-  item_start_keeps q t true h = h
-  item_start_keeps q t false h = home_keeps q _ t _ h
-
-  pub search_keeps : (q : Query) (t : M) → P t → P (find_path M charge s q t).meter
-  unfolding find_path
-  search_keeps q t h = item_start_keeps q t _ h

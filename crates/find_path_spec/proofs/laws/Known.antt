@@ -43,10 +43,13 @@ use Rattle.find_path_spec.specs.Rules.{is_kw_kind_relative_to_from, keyword_of, 
 use Rattle.find_path_spec.specs.Local.{LocalSearch, offer, offer_entry, is_importable, entry_if, importable_name, location, each_location}
 use Rattle.find_path_spec.specs.Local.{calculate_best_path_local, or_local, find_path_for_module_local}
 use Rattle.find_path_spec.specs.Meters.{Charged, go, stop, from_tank, Charge}
-use Rattle.find_path_spec.specs.Charged.{Out, Search, Inner, langs, one_or_none, variant_of, push_variant, offer_import, find_import, find_imports, find_in_dep}
-use Rattle.find_path_spec.specs.Charged.{find_in_deps, find_in_sysroot, go_on, after_charge, calculate_best_path, or_charged, find_path_for_module, after_enum, via_enum}
+use Rattle.find_path_spec.specs.Charged.{Out, Search, Inner, langs, one_or_none, variant_of, push_variant, offer_import, find_import, find_imports}
+use Rattle.find_path_spec.specs.Charged.{find_in_dep}
+use Rattle.find_path_spec.specs.Charged.{find_in_deps, find_in_sysroot, go_on, after_charge, calculate_best_path, or_charged, find_path_for_module}
+use Rattle.find_path_spec.specs.Charged.{after_enum, via_enum}
 use Rattle.find_path_spec.specs.Charged.{or_enum, by_name, of_module, find_path_inner}
-use Rattle.find_path_spec.specs.Search.{builtin_choice, local_to, search_local, best_local, module_to, search_module, item_to, search_item, from_home, from_item}
+use Rattle.find_path_spec.specs.Search.{builtin_choice, local_to, search_local, best_local, module_to, search_module, item_to, search_item, from_home}
+use Rattle.find_path_spec.specs.Search.{from_item}
 use Rattle.find_path_spec.specs.Search.{find_path}
 use Rattle.find_path_spec.specs.Report.{refused, reported, searched, report_of}
 use Rattle.find_path_spec.specs.laws.Fuels.{NamesKnown}
@@ -414,13 +417,15 @@ module _ (M : Type 0) (charge : Charge M) (s : Snapshot) (r : Ranges (counts_of 
         → Known s (find_imports M charge s x here rec left o is).choice
     unfolding find_imports
     imports_known left o f Each.none = f
-    imports_known left o f (more {x = i} h hs) = imports_known left (find_import M charge s x here rec left o i (is_hidden i)) (import_known left o i _ f h) hs
+    imports_known left o f (more {x = i} h hs) =
+        imports_known left (find_import M charge s x here rec left o i (is_hidden i)) (import_known left o i _ f h) hs
 
     deps_known : (left : ℕ) (item : Item) (o : Out M) (ds : List Dependency) → Known s o.choice
         → Known s (find_in_deps M charge s x here rec left item o ds).choice
     unfolding find_in_deps find_in_dep import_info_for
     deps_known left item o [] f = f
-    deps_known left item o (d ∷ ds) f = deps_known left item (find_in_dep M charge s x here rec left item o d) ds (imports_known left o f (each_select _ r.imports))
+    deps_known left item o (d ∷ ds) f =
+        deps_known left item (find_in_dep M charge s x here rec left item o d) ds (imports_known left o f (each_select _ r.imports))
 
     sysroot_known : (left : ℕ) (item : Item) (o : Out M) (ls : List ℕ) (b : Bool) → Known s o.choice
         → Known s (find_in_sysroot M charge s x here rec left item o ls b).choice
@@ -429,7 +434,8 @@ module _ (M : Type 0) (charge : Charge M) (s : Snapshot) (r : Ranges (counts_of 
     sysroot_known left item o [] false f = deps_known left item o (sysroot_first s x.from_crate.0) f
     sysroot_known left item o (n ∷ ls) true f = f
     sysroot_known left item o (n ∷ ls) false f =
-        sysroot_known left item (find_in_deps M charge s x here rec left item o (one_or_none (lang_of s x.from_crate.0 n))) ls _ (deps_known left item o (one_or_none (lang_of s x.from_crate.0 n)) f)
+        sysroot_known left item (find_in_deps M charge s x here rec left item o (one_or_none (lang_of s x.from_crate.0 n))) ls _
+        (deps_known left item o (one_or_none (lang_of s x.from_crate.0 n)) f)
 
     go_known : (left : ℕ) (item : Item) (t : M) (a b : Bool) → Known s (go_on M charge s x here rec left item t a b).choice
     unfolding go_on

@@ -30,10 +30,13 @@ use Rattle.find_path_spec.specs.Rules.{is_kw_kind_relative_to_from, keyword_of, 
 use Rattle.find_path_spec.specs.Local.{LocalSearch, offer, offer_entry, is_importable, entry_if, importable_name, location, each_location}
 use Rattle.find_path_spec.specs.Local.{calculate_best_path_local, or_local, find_path_for_module_local}
 use Rattle.find_path_spec.specs.Meters.{counted}
-use Rattle.find_path_spec.specs.Charged.{Out, Search, Inner, is_stable, langs, one_or_none, variant_of, push_variant, offer_import, find_import, find_imports}
-use Rattle.find_path_spec.specs.Charged.{find_in_dep, find_in_deps, find_in_sysroot, go_on, after_charge, calculate_best_path, or_charged, find_path_for_module}
+use Rattle.find_path_spec.specs.Charged.{Out, Search, Inner, is_stable, langs, one_or_none, variant_of, push_variant, offer_import, find_import}
+use Rattle.find_path_spec.specs.Charged.{find_imports}
+use Rattle.find_path_spec.specs.Charged.{find_in_dep, find_in_deps, find_in_sysroot, go_on, after_charge, calculate_best_path, or_charged}
+use Rattle.find_path_spec.specs.Charged.{find_path_for_module}
 use Rattle.find_path_spec.specs.Charged.{after_enum, via_enum, or_enum, by_name, of_module, find_path_inner}
-use Rattle.find_path_spec.specs.Search.{local_to, search_local, best_local, module_to, search_module, item_to, search_item, from_home, from_item, find_path}
+use Rattle.find_path_spec.specs.Search.{local_to, search_local, best_local, module_to, search_module, item_to, search_item, from_home, from_item}
+use Rattle.find_path_spec.specs.Search.{find_path}
 use Rattle.find_path_spec.specs.Report.{outcome_of, searched_freely}
 use Rattle.find_path_spec.specs.laws.Fuels.{HasPath}
 use Rattle.find_path_spec.specs.Report.{report_at}
@@ -317,14 +320,16 @@ module _ (s : Snapshot) (y : FindPathCtx) (here : ℕ → Item → Choice) (rec 
   deps_stay : (item : Item) (o : Out ℕ) (ds : List Dependency) → Has o → Has (find_in_deps ℕ counted s y here rec left item o ds)
   unfolding find_in_deps find_in_dep
   deps_stay item o [] f = f
-  deps_stay item o (d ∷ ds) f = deps_stay item (find_in_dep ℕ counted s y here rec left item o d) ds (imports_stay o (import_info_for s d.crate item) f)
+  deps_stay item o (d ∷ ds) f =
+      deps_stay item (find_in_dep ℕ counted s y here rec left item o d) ds (imports_stay o (import_info_for s d.crate item) f)
 
   sysroot_stays : (item : Item) (o : Out ℕ) (ls : List ℕ) (b : Bool) → Has o → Has (find_in_sysroot ℕ counted s y here rec left item o ls b)
   unfolding find_in_sysroot
   sysroot_stays item o [] true f = f
   sysroot_stays item o [] false f = deps_stay item o (sysroot_first s y.from_crate.0) f
   sysroot_stays item o (l ∷ ls) true f = f
-  sysroot_stays item o (l ∷ ls) false f = sysroot_stays item (find_in_deps ℕ counted s y here rec left item o (one_or_none (lang_of s y.from_crate.0 l))) ls _
+  sysroot_stays item o (l ∷ ls) false f =
+      sysroot_stays item (find_in_deps ℕ counted s y here rec left item o (one_or_none (lang_of s y.from_crate.0 l))) ls _
       (deps_stay item o (one_or_none (lang_of s y.from_crate.0 l)) f)
 
 abbrev Both : Out ℕ → Out ℕ → Type 0
@@ -351,7 +356,8 @@ module _ (s : Snapshot) (x : FindPathCtx) (n : ℕ) where
       unfolding find_imports
       imports_grow o p [] k = k
       imports_grow o p (i ∷ is) k =
-          imports_grow (find_import ℕ counted s x here f left o i (is_hidden i)) (find_import ℕ counted s (limited x n) here' g left' p i (is_hidden i))
+          imports_grow (find_import ℕ counted s x here f left o i (is_hidden i))
+          (find_import ℕ counted s (limited x n) here' g left' p i (is_hidden i))
           is
           (import_grows o p i (is_hidden i) k)
 

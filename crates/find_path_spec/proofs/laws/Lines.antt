@@ -13,7 +13,7 @@ unfolding decimal_to
 short zero n h k = let z : n % 10 ≡ n = omega arith in rw z
 short (suc d) n h k = rw (decimal_to, lt-ltb n 10 h)
 
-long : (d n : ℕ) → 10 ≤ n → decimal_to (suc d) n ≡ decimal_to d (n / 10) ++ ((48 + n % 10) ∷ [])
+pub long : (d n : ℕ) → 10 ≤ n → decimal_to (suc d) n ≡ decimal_to d (n / 10) ++ ((48 + n % 10) ∷ [])
 unfolding decimal_to
 long d n h = rw (decimal_to, le-ltb n 10 h)
 

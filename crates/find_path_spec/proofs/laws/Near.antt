@@ -137,9 +137,6 @@ module _ (s : Snapshot) (x : FindPathCtx) where
   near_later ls (suc k) (suc j) m h e =
       ⊎_elim (λ r. near_rule ls j m r) (λ (c, a, n). near_step ls j m c a (near_later ls k j c (omega arith) n)) (near_cases ls k m e)
 
-  pub near_grows : (ls : List Level) (k m : ℕ) → near s x ls k m ≡ true → near s x ls (suc k) m ≡ true
-  near_grows ls k m = near_later ls k (suc k) m (omega arith)
-
   -- What is near under levels is near under those that visit less.
   pub near_less : (ls ls' : List Level) → ((n c : ℕ) → visited ls (module_item n) c ≡ true → visited ls' (module_item n) c ≡ true)
       → (k m : ℕ) → near s x ls' k m ≡ true → near s x ls k m ≡ true

@@ -92,7 +92,8 @@ unfolding report_by
 by_verdict words q fuel l (refuse n place) e h = refusal n (omega (arith, h)) refl
 by_verdict words q fuel l (accept s) e h = by_question words q fuel s e l (question_fault s q) (question_small s q)
 
-by_call : (words : List ℕ) (q : Query) (fuel n : ℕ) → n ≤ largest_refusal → (n ≡ 0 → Allowed q fuel) → Kind words q fuel (report_unless words q fuel n)
+by_call : (words : List ℕ) (q : Query) (fuel n : ℕ) → n ≤ largest_refusal → (n ≡ 0 → Allowed q fuel)
+    → Kind words q fuel (report_unless words q fuel n)
 unfolding report_unless
 by_call words q fuel zero h l = by_verdict words q fuel (l refl) (verdict words) refl (verdict_small words)
 by_call words q fuel (suc n) h l = refusal (suc n) h refl

@@ -23,7 +23,8 @@ use Rattle.hir_def.specs.declared.Item.{Item}
 use Rattle.hir_def.specs.declared.Item.TheVariants.{Mod, Def}
 use Rattle.read_back.specs.readings.Reads as Reads
 use Rattle.read_back.specs.readings.Reads.{self_kind, super_kind, crate_kind, absolute_kind, outward, scopes_from, stands_for, meaning, entry_or, extern_named}
-use Rattle.read_back.specs.readings.Reads.{in_externs, prelude_means, in_prelude_of, entry_from, first_name, variant_named, variant_in, later_name, after, looked_in}
+use Rattle.read_back.specs.readings.Reads.{in_externs, prelude_means, in_prelude_of, entry_from, first_name, variant_named, variant_in, later_name, after}
+use Rattle.read_back.specs.readings.Reads.{looked_in}
 use Rattle.read_back.specs.readings.Reads.{follow, absolutely, parent_means, reads_to, is_the, reads_back}
 use Rattle.hir_def.proofs.Plain.{plain, plainly, plain_of, first_plain, name_plain, names_plain}
 use Rattle.find_path_choice.specs.Choices.{Choice}
@@ -31,17 +32,20 @@ use Rattle.find_path_spec.specs.declared.FindPathCtx.{FindPathCtx}
 use Rattle.find_path_spec.specs.declared.Query.{Query}
 use Rattle.find_path_spec.specs.declared.Question.{Question}
 use Rattle.find_path_spec.specs.declared.Tank.{Tank}
-use Rattle.find_path_choice.specs.Choices.{plain_path, self_path, crate_path, via_scope, via_prelude, via_extern, step_by, nothing, keyword, name_data, is_prelude}
+use Rattle.find_path_choice.specs.Choices.{plain_path, self_path, crate_path, via_scope, via_prelude, via_extern, step_by, nothing, keyword, name_data}
+use Rattle.find_path_choice.specs.Choices.{is_prelude}
 use Rattle.find_path_choice.specs.Choices.{choice_new, extended, push, better, try_select}
 use Rattle.find_path_spec.specs.Walk.{Level, visited, start_from, leads_to, walk, find_local_import_locations}
-use Rattle.find_path_spec.specs.Rules.{bit, prefix_path_kind, context_of, first_found, single, find_in_scope, may_be_in_scope, scope_rule, same_here, is_usable}
+use Rattle.find_path_spec.specs.Rules.{bit, prefix_path_kind, context_of, first_found, single, find_in_scope, may_be_in_scope, scope_rule, same_here}
+use Rattle.find_path_spec.specs.Rules.{is_usable}
 use Rattle.find_path_spec.specs.Rules.{prelude_entry, in_prelude, find_in_prelude, prelude_rule, extern_kind, extern_name, root_rule, parent_kind}
 use Rattle.find_path_spec.specs.Rules.{is_kw_kind_relative_to_from, keyword_of, module_rules}
 use Rattle.find_path_spec.specs.Meters.{Charged, go, stop, Charge}
 use Rattle.find_path_spec.specs.Charged.{Out, Search, Inner, is_stable, langs, one_or_none, is_at, variant_of, push_variant, offer_import, find_import}
 use Rattle.find_path_spec.specs.Charged.{find_imports, find_in_dep, find_in_deps, find_in_sysroot, go_on, after_charge, calculate_best_path, or_charged}
 use Rattle.find_path_spec.specs.Charged.{find_path_for_module, after_enum, via_enum, or_enum, by_name, of_module, find_path_inner}
-use Rattle.find_path_spec.specs.Search.{is_builtin_type, builtin_choice, local_to, search_local, best_local, module_to, search_module, item_to, search_item}
+use Rattle.find_path_spec.specs.Search.{is_builtin_type, builtin_choice, local_to, search_local, best_local, module_to, search_module, item_to}
+use Rattle.find_path_spec.specs.Search.{search_item}
 use Rattle.find_path_spec.specs.Search.{from_home, from_item, find_path}
 use Rattle.find_path_spec.specs.Report.{question_fault, flag, misleads, outcome_by, reported, searched, answer_unless, report_by, report_unless, report_of}
 use Rattle.find_path_spec.specs.Local.{LocalSearch, offer, offer_entry, is_importable, entry_if, importable_name, location, each_location}
@@ -88,10 +92,6 @@ module _ (s : Snapshot) where
   unfolding get
   get_plain m ns name = first_plain _ _ (λ e. refl) s.scopes
 
-  ancestors_plain : (m : ℕ) → ancestor_maps (plainly s) m ≡ ancestor_maps s m
-  unfolding ancestor_maps module_of map_of
-  ancestors_plain m = refl
-
   scope_plain : (m : ℕ) (item : Item) (b : Bool) → scope_entry (plainly s) m item b false ≡ plain_of (scope_entry s m item b false)
   unfolding scope_entry preferred ancestor_maps module_of map_of
   scope_plain m item b = some_plain _ _ (λ a. names_plain s a item b) (ancestor_maps s m)
@@ -130,10 +130,6 @@ module _ (s : Snapshot) where
       ∙ ap (map (entry_module (plainly s))) (select_plain _ _ (near_plain from) (modules_in_scope s m))
       ∙ map_plain (entry_module s) (entry_module (plainly s)) (λ e. refl)
       (select (λ e. eqb (crate_of s (entry_module s e)) (crate_of s from) && sees s from e) (modules_in_scope s m))
-
-  starts_plain : (from : ℕ) → start_from (plainly s) from ≡ start_from s from
-  unfolding start_from children_of containers containing module_of map_of
-  starts_plain from = refl
 
   locations_plain : (from : ℕ) (seen : ℕ → Bool) → find_local_import_locations (plainly s) from seen ≡ find_local_import_locations s from seen
   unfolding find_local_import_locations start_from children_of containers containing module_of map_of
@@ -189,7 +185,8 @@ module _ (s : Snapshot) (from : ℕ) where
   unfolding follow
   follow_plain ns here [] = refl
   follow_plain ns here (n ∷ more) =
-      ap (λ (x : Option Item). follow (plainly s) from ns x more) (reached_plain (looked_in ns more) n here) ∙ follow_plain ns (after here (later_name s from (looked_in ns more) n)) more
+      ap (λ (x : Option Item). follow (plainly s) from ns x more) (reached_plain (looked_in ns more) n here)
+      ∙ follow_plain ns (after here (later_name s from (looked_in ns more) n)) more
 
   plainly_plain : (ns : ℕ) (names : List ℕ) → Reads.plainly (plainly s) from ns names ≡ Reads.plainly s from ns names
   unfolding Reads.plainly
@@ -399,7 +396,8 @@ module _ (s : Snapshot) (x : FindPathCtx) (clear : x.fresh ≡ false) where
   local_to_plain zero = refl
   local_to_plain (suc d) =
       λ i left ls m.
-      (ap (λ (r : LocalSearch). find_path_for_module_local (plainly s) x r left ls m) (local_to_plain d) ∙ module_local_plain (local_to s x d) left ls m) i
+      (ap (λ (r : LocalSearch). find_path_for_module_local (plainly s) x r left ls m) (local_to_plain d)
+      ∙ module_local_plain (local_to s x d) left ls m) i
 
   search_local_plain : search_local (plainly s) x ≡ search_local s x
   unfolding search_local

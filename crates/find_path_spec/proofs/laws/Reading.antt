@@ -33,6 +33,7 @@ use Rattle.find_path_spec.specs.Report.{report_at}
 use Rattle.find_path_spec.specs.laws.Routes.{asked_item}
 use Rattle.find_path_spec.specs.laws.Reading.{with_reading, MeansItem, ReadAs, ReadBack}
 use Rattle.find_path_spec.proofs.laws.Outcomes.{outcome_unread}
+use Rattle.find_path_spec.proofs.laws.Fewer as fewer
 
 -- the other bits are the same
 
@@ -97,10 +98,6 @@ module _ (s : Snapshot) (q : Query) where
   unfolding searched
   searched_unread fuel = search_unread _ _ _
 
-or_back : (a b : Bool) → b ≡ true → (a || b) ≡ true
-or_back true b e = refl
-or_back false b e = e
-
 -- the outcome by what was found and whether it means the item
 answered : Bool → Bool → ℕ
 answered f b = outcome_by (f && not b) f
@@ -157,7 +154,7 @@ module _ (s : Snapshot) (q : Query) (o : Out Tank) (below : q.options < 64) wher
   unfolding reported
   means_back h =
       ⊎_elim (λ e. rw (eq-eqb _ _ e.0, eq-eqb _ _ e.1))
-      (λ e. or_back (is_builtin_type s q) back (exactly_reads s q.from.0 (asked_item s q) choice.kind (take choice.count choice.names)
+      (λ e. fewer.or_right (is_builtin_type s q) back (exactly_reads s q.from.0 (asked_item s q) choice.kind (take choice.count choice.names)
       (subst (λ (n : ℕ). reads_to s q.from.0 n choice.kind (take choice.count choice.names) ≡ Some (asked_item s q))
       (sym (item_ns s q.ns q.definition.0)) e))) h
 

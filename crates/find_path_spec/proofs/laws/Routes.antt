@@ -22,7 +22,8 @@ use Rattle.accept.proofs.Bools.{and_left, and_right, and_two, or_none_lem, each_
 use Rattle.accept.proofs.Places.{accepted_placed}
 use Rattle.accept.proofs.Valid.{accepted_valid}
 use Rattle.hir_def.specs.Finds.{first_of}
-use Rattle.hir_def.specs.Items.{types, builtin_kind, map_no, crate_of, crate_root, root_of, parent_of, block_of, in_block, definition_of, item_of, same_item}
+use Rattle.hir_def.specs.Items.{types, builtin_kind, map_no, crate_of, crate_root, root_of, parent_of, block_of, in_block, definition_of, item_of}
+use Rattle.hir_def.specs.Items.{same_item}
 use Rattle.hir_def.specs.Items.{home_of, module_item}
 use Rattle.module_tree.specs.rules.Visibility.{sees}
 use Rattle.hir_def.specs.ItemScope.{is_for, name_of, names_of}
@@ -38,18 +39,22 @@ use Rattle.find_path_spec.specs.declared.Query.{Query}
 use Rattle.find_path_spec.specs.declared.Question.{Question}
 use Rattle.find_path_spec.specs.declared.Report.{Report}
 use Rattle.find_path_spec.specs.declared.Tank.{Tank}
-use Rattle.find_path_choice.specs.Choices.{plain_path, self_path, super_path, crate_path, via_builtin, via_scope, via_prelude, via_extern, via_keyword, via_variant}
+use Rattle.find_path_choice.specs.Choices.{plain_path, self_path, super_path, crate_path, via_builtin, via_scope, via_prelude, via_extern, via_keyword}
+use Rattle.find_path_choice.specs.Choices.{via_variant}
 use Rattle.find_path_choice.specs.Choices.{via_local, via_import, step_by, nothing, keyword, choice_new, extended, push, unstably, better, try_select}
 use Rattle.find_path_spec.specs.Walk.{Level, visited}
-use Rattle.find_path_spec.specs.Rules.{bit, by_crate, may_be_in_scope, prefix_path_kind, context_of, first_found, single, find_in_scope, scope_rule, find_in_prelude}
+use Rattle.find_path_spec.specs.Rules.{bit, by_crate, may_be_in_scope, prefix_path_kind, context_of, first_found, single, find_in_scope, scope_rule}
+use Rattle.find_path_spec.specs.Rules.{find_in_prelude}
 use Rattle.find_path_spec.specs.Rules.{prelude_rule, extern_name, root_rule, parent_kind, is_kw_kind_relative_to_from, keyword_of, module_rules}
 use Rattle.find_path_spec.specs.Local.{LocalSearch, offer, offer_entry, is_importable, entry_if, importable_name, location, each_location}
 use Rattle.find_path_spec.specs.Local.{calculate_best_path_local, or_local, find_path_for_module_local}
 use Rattle.find_path_spec.specs.Meters.{Charged, go, stop, from_tank, Charge, filled}
 use Rattle.find_path_spec.specs.Charged.{Out, Search, Inner, langs, one_or_none, is_at, variant_of, push_variant, offer_import, find_import, find_imports}
-use Rattle.find_path_spec.specs.Charged.{find_in_dep, find_in_deps, find_in_sysroot, go_on, after_charge, calculate_best_path, or_charged, find_path_for_module}
+use Rattle.find_path_spec.specs.Charged.{find_in_dep, find_in_deps, find_in_sysroot, go_on, after_charge, calculate_best_path, or_charged}
+use Rattle.find_path_spec.specs.Charged.{find_path_for_module}
 use Rattle.find_path_spec.specs.Charged.{after_enum, via_enum, or_enum, by_name, of_module, find_path_inner}
-use Rattle.find_path_spec.specs.Search.{builtin_choice, local_to, search_local, best_local, module_to, search_module, item_to, search_item, from_home, from_item}
+use Rattle.find_path_spec.specs.Search.{builtin_choice, local_to, search_local, best_local, module_to, search_module, item_to, search_item, from_home}
+use Rattle.find_path_spec.specs.Search.{from_item}
 use Rattle.find_path_spec.specs.Search.{find_path}
 use Rattle.find_path_spec.specs.Report.{refused, reported, searched, report_of}
 use Rattle.find_path_spec.specs.laws.Fuels.{HasPath}
@@ -285,7 +290,8 @@ module _ (s : Snapshot) where
           let same : p ≡ m = sym (eqb-true m p t) in
           either_started m (eqb p (root_of s (map_no s x.from.0))) (Some crate_path) (Some super_path)
           (λ r k. crate_start m (rooted.root ∙ sym (own_root s valid x.from.0 p e b) ∙ sym (eqb-true p _ r) ∙ same))
-          (λ _ k. subst (λ (j : ℕ). Start s x super_path [] (step_by via_keyword 0) (module_item j)) same (super p (not_by_crate super_path refl k) e)))
+          (λ _ k. subst (λ (j : ℕ). Start s x super_path [] (step_by via_keyword 0) (module_item j)) same
+          (super p (not_by_crate super_path refl k) e)))
           (λ _. tt)
 
       keyword_started : (m : ℕ) → Started s x m (is_kw_kind_relative_to_from s x m)
@@ -443,7 +449,8 @@ module _ (M : Type 0) (charge : Charge M) (s : Snapshot) (x : FindPathCtx) (vali
     unfolding find_in_deps find_in_dep
     deps_lead left item o [] away h f = f
     deps_lead left item o (d ∷ ds) away (more k h) f =
-        deps_lead left item (find_in_dep M charge s x (best_local s x) rec left item o d) ds away h (imports_lead item left o f (imports_listed s x d item k away))
+        deps_lead left item (find_in_dep M charge s x (best_local s x) rec left item o d) ds away h
+        (imports_lead item left o f (imports_listed s x d item k away))
 
     sysroot_leads : (left : ℕ) (item : Item) (o : Out M) (ls : List ℕ) (b : Bool) → is_near s x item ≡ false → Leads s x item o.choice
         → Leads s x item (find_in_sysroot M charge s x (best_local s x) rec left item o ls b).choice
@@ -686,7 +693,8 @@ step_place rule place h = omega (arith, h)
 by_keyword : (W : List ℕ) → Shown W (step_by via_keyword 0)
 by_keyword W = record { keyword = λ _. refl; head = λ z. absurd (z refl) }
 
-by_record : {W : List ℕ} (rule place : ℕ) → rule < 8 → (rule ≡ via_keyword → ⊥) → kind_of (get_or W place 0) ≡ rule_kind rule → Shown W (step_by rule place)
+by_record : {W : List ℕ} (rule place : ℕ) → rule < 8 → (rule ≡ via_keyword → ⊥) → kind_of (get_or W place 0) ≡ rule_kind rule
+    → Shown W (step_by rule place)
 by_record {W = W} rule place h z e =
     let r = step_rule rule place h in
     record {

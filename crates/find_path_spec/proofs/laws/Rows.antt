@@ -75,7 +75,8 @@ module _ (s : Snapshot) (x : FindPathCtx) where
         (omega arith))
 
     each_row : (done : List ℕ) (best : Choice) (ms : List ℕ) → Within ms (locations s x [] m)
-        → each_location s x (search_local s x) (suc l) [] (module_item m) done best ms ≡ each_location s x row_of (suc l) [] (module_item m) done best ms
+        → each_location s x (search_local s x) (suc l) [] (module_item m) done best ms
+        ≡ each_location s x row_of (suc l) [] (module_item m) done best ms
     unfolding each_location
     each_row done best [] w = refl
     each_row done best (c ∷ ms) w =

@@ -17,8 +17,10 @@ use Rattle.find_path_spec.specs.declared.FindPathCtx.{FindPathCtx}
 use Rattle.find_path_spec.specs.declared.Query.{Query}
 use Rattle.find_path_spec.specs.Rules.{context_of}
 use Rattle.find_path_spec.specs.Meters.{Charged, Charge, go, drained, draw, from_tank}
-use Rattle.find_path_spec.specs.Charged.{Out, Search, Inner, is_stable, langs, one_or_none, variant_of, offer_import, find_import, find_imports, find_in_dep}
-use Rattle.find_path_spec.specs.Charged.{find_in_deps, find_in_sysroot, go_on, after_charge, calculate_best_path, or_charged, find_path_for_module, after_enum, via_enum}
+use Rattle.find_path_spec.specs.Charged.{Out, Search, Inner, is_stable, langs, one_or_none, variant_of, offer_import, find_import, find_imports}
+use Rattle.find_path_spec.specs.Charged.{find_in_dep}
+use Rattle.find_path_spec.specs.Charged.{find_in_deps, find_in_sysroot, go_on, after_charge, calculate_best_path, or_charged, find_path_for_module}
+use Rattle.find_path_spec.specs.Charged.{after_enum, via_enum}
 use Rattle.find_path_spec.specs.Charged.{or_enum, by_name, of_module, find_path_inner}
 use Rattle.find_path_spec.specs.Search.{best_local, module_to, search_module, item_to, search_item, from_home, from_item, find_path}
 use Rattle.find_path_spec.proofs.laws.Keeps.{left_by, KeptBy, sysroot_keeps, go_keeps, enum_keeps, module_to_keeps, module_search_keeps}
@@ -114,14 +116,18 @@ module _ (C : Type 0) (charge : Charge C) (size : C → ℕ) (Past : ℕ → ℕ
           → Both F (find_imports Tank from_tank s x here rt left a is) (find_imports C charge s x here rc left c is)
       unfolding find_imports
       imports_sim left a c [] h = h
-      imports_sim left a c (i ∷ is) h = imports_sim left (find_import Tank from_tank s x here rt left a i (is_hidden i)) (find_import C charge s x here rc left c i (is_hidden i)) is
+      imports_sim left a c (i ∷ is) h =
+          imports_sim left (find_import Tank from_tank s x here rt left a i (is_hidden i))
+          (find_import C charge s x here rc left c i (is_hidden i)) is
           (import_sim left a c i _ h)
 
       deps_sim : (left : ℕ) (item : Item) (a : Out Tank) (c : Out C) (ds : List Dependency) → Both F a c
           → Both F (find_in_deps Tank from_tank s x here rt left item a ds) (find_in_deps C charge s x here rc left item c ds)
       unfolding find_in_deps find_in_dep
       deps_sim left item a c [] h = h
-      deps_sim left item a c (d ∷ ds) h = deps_sim left item (find_in_dep Tank from_tank s x here rt left item a d) (find_in_dep C charge s x here rc left item c d) ds (imports_sim left a c (import_info_for s d.crate item) h)
+      deps_sim left item a c (d ∷ ds) h =
+          deps_sim left item (find_in_dep Tank from_tank s x here rt left item a d) (find_in_dep C charge s x here rc left item c d) ds
+          (imports_sim left a c (import_info_for s d.crate item) h)
 
       -- on to the next language, if the choice is not stable
       sysroot_next : (left : ℕ) (item : Item) (ls : List ℕ) (a : Out Tank) (c : Out C)
@@ -145,7 +151,8 @@ module _ (C : Type 0) (charge : Charge C) (size : C → ℕ) (Past : ℕ → ℕ
       sysroot_sim left item a c [] false h = deps_sim left item a c (sysroot_first s x.from_crate.0) h
       sysroot_sim left item a c (l ∷ ls) true h = h
       sysroot_sim left item a c (l ∷ ls) false h =
-          sysroot_next left item ls _ _ (λ b k. sysroot_sim left item (find_in_deps Tank from_tank s x here rt left item a (one_or_none (lang_of s x.from_crate.0 l)))
+          sysroot_next left item ls _ _
+          (λ b k. sysroot_sim left item (find_in_deps Tank from_tank s x here rt left item a (one_or_none (lang_of s x.from_crate.0 l)))
           (find_in_deps C charge s x here rc left item c (one_or_none (lang_of s x.from_crate.0 l))) ls b k)
           (deps_sim left item a c (one_or_none (lang_of s x.from_crate.0 l)) h)
 

@@ -8,9 +8,8 @@ use Rattle.hir_def.specs.declared.Item.{Item}
 use Rattle.find_path_spec.specs.declared.Tank.{Tank}
 use Rattle.find_path_spec.specs.declared.FindPathCtx.{FindPathCtx}
 use Rattle.find_path_spec.specs.Meters.{drained, draw, from_tank}
-use Rattle.find_path_spec.specs.Charged.{calculate_best_path}
-use Rattle.find_path_spec.specs.Search.{best_local, search_module, search_item}
-use Rattle.find_path_spec.proofs.laws.Keeps.{left_by, best_keeps, module_search_keeps, item_to_keeps}
+use Rattle.find_path_spec.specs.Search.{search_module, search_item}
+use Rattle.find_path_spec.proofs.laws.Keeps.{left_by, module_search_keeps, item_to_keeps}
 
 abbrev pub sum : Tank → ℕ
 sum t = t.fuel + t.spent
@@ -35,12 +34,6 @@ sum_stays n left sought t h = draw_sum n left sought t t.fuel h
 module _ (s : Snapshot) (x : FindPathCtx) where
   pub module_sum : (left m : ℕ) (t : Tank) → sum (search_module Tank from_tank s x left m t).meter ≡ sum t
   module_sum left m t = module_search_keeps Tank from_tank s (Sum (sum t)) (sum_stays (sum t)) x left m t refl
-
-  pub best_sum : (left : ℕ) (item : Item) (t : Tank)
-      → sum (calculate_best_path Tank from_tank s x (best_local s x) (search_module Tank from_tank s x) left item t).meter ≡ sum t
-  best_sum left item t =
-      best_keeps Tank from_tank s (Sum (sum t)) (sum_stays (sum t)) x (best_local s x) (search_module Tank from_tank s x)
-      (module_search_keeps Tank from_tank s (Sum (sum t)) (sum_stays (sum t)) x) left item t refl
 
   pub item_sum : (item : Item) (t : Tank) → sum (search_item Tank from_tank s x item t).meter ≡ sum t
   unfolding search_item

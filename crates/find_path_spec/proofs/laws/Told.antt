@@ -26,8 +26,10 @@ use Rattle.find_path_spec.specs.declared.FindPathCtx.{FindPathCtx}
 use Rattle.find_path_spec.specs.declared.Query.{Query}
 use Rattle.find_path_spec.specs.Rules.{context_of, module_in, sought_of}
 use Rattle.find_path_spec.specs.Meters.{Charged, go, stop, drained, draw, from_tank, filled}
-use Rattle.find_path_spec.specs.Charged.{Out, Search, Inner, langs, one_or_none, variant_of, find_import, find_imports, find_in_dep, find_in_deps, find_in_sysroot}
-use Rattle.find_path_spec.specs.Charged.{go_on, after_charge, calculate_best_path, or_charged, find_path_for_module, after_enum, via_enum, or_enum, by_name, of_module}
+use Rattle.find_path_spec.specs.Charged.{Out, Search, Inner, langs, one_or_none, variant_of, find_import, find_imports, find_in_dep, find_in_deps}
+use Rattle.find_path_spec.specs.Charged.{find_in_sysroot}
+use Rattle.find_path_spec.specs.Charged.{go_on, after_charge, calculate_best_path, or_charged, find_path_for_module, after_enum, via_enum, or_enum}
+use Rattle.find_path_spec.specs.Charged.{by_name, of_module}
 use Rattle.find_path_spec.specs.Charged.{find_path_inner}
 use Rattle.find_path_spec.specs.Search.{best_local, module_to, search_module, item_to, search_item, from_home, from_item, find_path}
 use Rattle.find_path_spec.specs.Report.{searched}
@@ -105,7 +107,8 @@ module _ (s : Snapshot) (r : Ranges (counts_of s) s) where
           → Keeps (find_in_deps Tank from_tank s x here rec left item o ds).meter
       unfolding find_in_deps find_in_dep import_info_for
       deps_told item o [] f = f
-      deps_told item o (d ∷ ds) f = deps_told item (find_in_dep Tank from_tank s x here rec left item o d) ds (imports_told o (each_select _ r.imports) f)
+      deps_told item o (d ∷ ds) f =
+          deps_told item (find_in_dep Tank from_tank s x here rec left item o d) ds (imports_told o (each_select _ r.imports) f)
 
       sysroot_told : (item : Item) (o : Out Tank) (ls : List ℕ) (b : Bool) → Keeps o.meter
           → Keeps (find_in_sysroot Tank from_tank s x here rec left item o ls b).meter
@@ -113,7 +116,8 @@ module _ (s : Snapshot) (r : Ranges (counts_of s) s) where
       sysroot_told item o [] true f = f
       sysroot_told item o [] false f = deps_told item o (sysroot_first s x.from_crate.0) f
       sysroot_told item o (l ∷ ls) true f = f
-      sysroot_told item o (l ∷ ls) false f = sysroot_told item (find_in_deps Tank from_tank s x here rec left item o (one_or_none (lang_of s x.from_crate.0 l))) ls _
+      sysroot_told item o (l ∷ ls) false f =
+          sysroot_told item (find_in_deps Tank from_tank s x here rec left item o (one_or_none (lang_of s x.from_crate.0 l))) ls _
           (deps_told item o (one_or_none (lang_of s x.from_crate.0 l)) f)
 
       go_told : (item : Item) (t : Tank) (a b : Bool) → Keeps t → Keeps (go_on Tank from_tank s x here rec left item t a b).meter

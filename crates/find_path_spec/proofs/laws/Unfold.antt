@@ -18,8 +18,10 @@ use Rattle.find_path_spec.specs.Walk.{Level}
 use Rattle.find_path_spec.specs.Local.{LocalSearch, offer_entry, importable_name, location, each_location, calculate_best_path_local, or_local}
 use Rattle.find_path_spec.specs.Local.{find_path_for_module_local}
 use Rattle.find_path_spec.specs.Meters.{Charged, go, stop, Charge}
-use Rattle.find_path_spec.specs.Charged.{Out, Search, Inner, is_stable, langs, one_or_none, variant_of, offer_import, find_import, find_imports, find_in_dep}
-use Rattle.find_path_spec.specs.Charged.{find_in_deps, find_in_sysroot, go_on, after_charge, calculate_best_path, or_charged, find_path_for_module, after_enum, via_enum}
+use Rattle.find_path_spec.specs.Charged.{Out, Search, Inner, is_stable, langs, one_or_none, variant_of, offer_import, find_import, find_imports}
+use Rattle.find_path_spec.specs.Charged.{find_in_dep}
+use Rattle.find_path_spec.specs.Charged.{find_in_deps, find_in_sysroot, go_on, after_charge, calculate_best_path, or_charged, find_path_for_module}
+use Rattle.find_path_spec.specs.Charged.{after_enum, via_enum}
 use Rattle.find_path_spec.specs.Charged.{or_enum, by_name, of_module, find_path_inner}
 use Rattle.find_path_spec.specs.Search.{local_to, search_local, best_local, module_to, search_module, item_to, search_item}
 
@@ -112,7 +114,8 @@ module _ (M : Type 0) (charge : Charge M) (s : Snapshot) (x : FindPathCtx) where
     unfolding find_in_deps find_in_dep
     deps_same item o [] = refl
     deps_same item o (d ∷ ds) =
-        ap (λ (r : Out M). find_in_deps M charge s x here f left item r ds) (imports_same o (import_info_for s d.crate item)) ∙ deps_same item (find_in_dep M charge s x here g left item o d) ds
+        ap (λ (r : Out M). find_in_deps M charge s x here f left item r ds) (imports_same o (import_info_for s d.crate item))
+        ∙ deps_same item (find_in_dep M charge s x here g left item o d) ds
 
     sysroot_same : (item : Item) (o : Out M) (ls : List ℕ) (b : Bool)
         → find_in_sysroot M charge s x here f left item o ls b ≡ find_in_sysroot M charge s x here g left item o ls b

@@ -6,14 +6,13 @@ use mathlib.Core.Bool.{Bool, true, false, ◌&&◌, ◌||◌, not, false≢true}
 use Rattle.std.specs.Prelude.{Option, None, Some}
 use lib.Dec.{eqb}
 use lib.Seq.{append_snoc}
-use borrow.Author.Tests.{eq-eqb, eqb-true}
+use borrow.Author.Tests.{eqb-true}
 use Rattle.snapshot.specs.Lists.{any}
 use Rattle.snapshot.specs.Records.{Snapshot, Scope}
 use Rattle.accept.proofs.Bools.{or_none_lem}
 use Rattle.hir_def.specs.Finds.{select}
 use Rattle.hir_def.specs.Items.{same_item, module_item}
 use Rattle.hir_def.specs.declared.Item.{Item}
-use Rattle.hir_def.specs.declared.Item.TheVariants.{Mod, Def}
 use Rattle.find_path_choice.specs.Choices.{Choice}
 use Rattle.find_path_spec.specs.declared.FindPathCtx.{FindPathCtx}
 use Rattle.find_path_choice.specs.Choices.{nothing}
@@ -23,7 +22,7 @@ use Rattle.find_path_spec.specs.Local.{find_path_for_module_local}
 use Rattle.find_path_spec.specs.Search.{local_to, search_local, best_local}
 use Rattle.find_path_spec.specs.laws.Visited.{Pairs, no_pairs, insert, remove, remove_all, Handed, SetSearch, callback, worklist, best_in_set, or_in_set}
 use Rattle.find_path_spec.specs.laws.Visited.{module_in_set, set_to, search_in_set, OneSet, Enough}
-use Rattle.read_back.proofs.Exact.{same_item_lem}
+use Rattle.read_back.proofs.Exact.{same_item_lem, same_self}
 use Rattle.find_path_spec.proofs.laws.Walks.{has_snoc, locations_more}
 
 -- tests
@@ -65,11 +64,6 @@ or_split : (a b c : Bool) → a || b ≡ true → (a ≡ true → c ≡ false) �
 or_split true b c e f g = f refl
 or_split false b c e f g = g e
 
-item_self : (item : Item) → same_item item item ≡ true
-unfolding same_item
-item_self (Mod m) = eq-eqb m.0 m.0 refl
-item_self (Def ns d) = rw (eq-eqb ns.0 ns.0 refl, eq-eqb d.0 d.0 refl)
-
 removed_at : (v : Pairs) (item : Item) (ms : List ℕ) (i : Item) (n : ℕ) → remove_all v item ms i n ≡ not (same_item item i && has ms n) && v i n
 unfolding remove_all remove has any
 removed_at v item [] i n = bool_keep (same_item item i) (v i n)
@@ -92,7 +86,7 @@ module _ (v : Pairs) (item : Item) where
       (bool_insert (same_item item i) (eqb n m) (has d n) (v i n) ∙ ap (λ (h : Bool). (same_item item i && h) || v i n) (sym (has_snoc d m n))) k
 
   under_met : (d : List ℕ) (m : ℕ) → under d item m ≡ v item m || has d m
-  under_met d m = rw (item_self item) (or_comm (has d m) (v item m))
+  under_met d m = rw (same_self item) (or_comm (has d m) (v item m))
 
   outside_unmet : (d ms : List ℕ) → select (λ n. not (under d item n)) ms ≡ unmet (v item) d ms
   unfolding unmet

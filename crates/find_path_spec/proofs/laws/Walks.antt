@@ -3,7 +3,7 @@ use mathlib.Core.Path.{◌≡◌, refl, ap, sym, ◌∙◌}
 use Prim.Native.Nat.{ℕ, zero, suc, ◌+◌, ◌≤◌}
 use native.Mathlib.Omega.{arith}
 use mathlib.Core.List.{List, [], ◌∷◌, ◌++◌}
-use mathlib.Core.Bool.{Bool, true, false, ◌&&◌, ◌||◌, not, or-false, true≢false}
+use mathlib.Core.Bool.{Bool, true, false, ◌&&◌, ◌||◌, not, or-false, or_assoc, true≢false}
 use lib.Dec.{eqb}
 use lib.ListN.{length, length-append, length-map}
 use borrow.Author.Tests.{eq-eqb, ne_eqb, eqb-true, eqb-false}
@@ -40,11 +40,11 @@ module _ {A : Type 0} (p : A → Bool) where
 pub has_snoc : (d : List ℕ) (m n : ℕ) → has (d ++ (m ∷ [])) n ≡ (has d n || eqb n m)
 unfolding has any
 has_snoc [] m n = or-false (eqb n m)
-has_snoc (x ∷ d) m n = rw (has_snoc d m n) (sym (assoc (eqb n x) (has d n) (eqb n m)))
-  where
-    assoc : (a b c : Bool) → (a || b) || c ≡ a || (b || c)
-    assoc true b c = refl
-    assoc false b c = refl
+has_snoc (x ∷ d) m n = rw (has_snoc d m n) (sym (or_assoc (eqb n x) (has d n) (eqb n m)))
+
+pub unmet_short : (seen : ℕ → Bool) (d ms : List ℕ) → length (unmet seen d ms) ≤ length ms
+unfolding unmet
+unmet_short seen d ms = select_short _ ms
 
 -- `size` is what the modules not taken yet can still add: it falls by what a module leads to, when that is taken.
 module _ (next : ℕ → List ℕ) (seen : ℕ → Bool) (size : List ℕ → ℕ)
@@ -63,10 +63,6 @@ module _ (next : ℕ → List ℕ) (seen : ℕ → Bool) (size : List ℕ → �
   walk_end_lem zero d = refl
   walk_end_lem (suc b) d = refl
 
-  unmet_short : (d ms : List ℕ) → length (unmet seen d ms) ≤ length ms
-  unfolding unmet
-  unmet_short d ms = select_short _ ms
-
   abbrev More : ℕ → Type 0
   More b = (c : ℕ) (d ws : List ℕ) → length ws + size d ≤ b → length ws + size d ≤ c → walk next seen b d ws ≡ walk next seen c d ws
 
@@ -78,7 +74,7 @@ module _ (next : ℕ → List ℕ) (seen : ℕ → Bool) (size : List ℕ → �
       let d' = d ++ (m ∷ []) in
       let u = unmet seen d' (next m) in
       let l : length (ws ++ u) ≡ length ws + length u = length-append ws u in
-      let o : length u ≤ length (next m) = unmet_short d' (next m) in
+      let o : length u ≤ length (next m) = unmet_short seen d' (next m) in
       let q : size d' + length (next m) ≤ size d = falls d m (or_none_lem (seen m) (has d m) e) in
       walk_take b d m ws e ∙ ih c d' (ws ++ u) (omega arith) (omega arith) ∙ sym (walk_take c d m ws e)
 

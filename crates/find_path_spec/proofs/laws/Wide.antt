@@ -17,7 +17,8 @@ use Rattle.find_path_choice.specs.Choices.{via_local, step_by, is_prelude, name_
 use Rattle.find_path_choice.specs.Choices.{compare_prelude, taken, better, extended, push}
 use Rattle.find_path_spec.specs.Walk.{Level, has, visited}
 use Rattle.find_path_spec.specs.Rules.{module_rules}
-use Rattle.find_path_spec.specs.Local.{offer_entry, importable_name, location, each_location, calculate_best_path_local, or_local, find_path_for_module_local}
+use Rattle.find_path_spec.specs.Local.{offer_entry, importable_name, location, each_location, calculate_best_path_local, or_local}
+use Rattle.find_path_spec.specs.Local.{find_path_for_module_local}
 use Rattle.find_path_spec.specs.Search.{search_local}
 use Rattle.find_path_spec.specs.laws.Near.{is_some, is_on, ruled, locations, imports}
 use Rattle.find_path_spec.proofs.laws.Unfold.{length_falls, local_more}

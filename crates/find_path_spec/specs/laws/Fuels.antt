@@ -1,4 +1,4 @@
--- What two fuels have to do with the search without a tank: the statement of demand 3.
+-- What two fuels have to do with the search without a tank, and what the reports of one question have to do with each other.
 use Rattle.std.specs.Prelude.{◌≡◌, List, ◌⊎◌, ◌↔◌, ℕ, ◌+◌, min, ◌≤◌, ◌<◌, length, get_or}
 use Rattle.snapshot.specs.Limits.{module_limit, name_limit, path_limit, fuel_limit}
 use Rattle.snapshot.specs.Refusals.{largest_refusal}
@@ -90,7 +90,7 @@ pub record Compared (words : List ℕ) (area : ℕ) (q : Query) (F G : ℕ) : Ty
   pub smaller : Tells snapshot q F (searched_freely snapshot q) (report_at words area q F)
   pub larger : Tells snapshot q G (searched_freely snapshot q) (report_at words area q G)
 
--- Demand 3.
+-- The reports of one question with two fuels compared.
 abbrev pub FuelsCompared : Type 0
 FuelsCompared =
     (words : List ℕ) (area : ℕ) (q : Query) (F G : ℕ) → F < G → G ≤ fuel_limit

@@ -86,7 +86,8 @@ pub record OneSet (s : Snapshot) (x : FindPathCtx) (turns : ℕ) : Type 0 where
   pub given : (left : ℕ) (v : Pairs) (item : Item) → (best_in_set s x turns (search_in_set s x turns) left v item).set ≡ v
   -- the answer is that of the search to which the same pairs are passed down
   pub same : (left : ℕ) (ls : List Level) (item : Item)
-      → (best_in_set s x turns (search_in_set s x turns) left (visited ls) item).choice ≡ calculate_best_path_local s x (search_local s x) left ls item
+      → (best_in_set s x turns (search_in_set s x turns) left (visited ls) item).choice
+      ≡ calculate_best_path_local s x (search_local s x) left ls item
   -- the local search that a charged one makes, where nothing is visited yet
   pub whole : (left : ℕ) (item : Item)
       → best_in_set s x turns (search_in_set s x turns) left no_pairs item ≡ record { choice = best_local s x left item; set = no_pairs }

@@ -17,7 +17,8 @@ use Rattle.accept.proofs.Valid.{accepted_valid}
 use Rattle.hir_def.specs.Finds.{select}
 use Rattle.hir_def.proofs.Found.{each_select}
 use Rattle.find_path_spec.proofs.laws.Crates.{each_append}
-use Rattle.import_rules.specs.Collect.{insert_by, sort_into, entry_before, is_public_in, entries_of, modules_from, is_member_of, member_ns, member_import}
+use Rattle.import_rules.specs.Collect.{insert_by, sort_into, entry_before, is_public_in, entries_of, modules_from, is_member_of, member_ns}
+use Rattle.import_rules.specs.Collect.{member_import}
 use Rattle.import_rules.specs.Collect.{entry_import, imports_of, imports_in, imports_over, collected}
 use Rattle.import_rules.specs.import_words.Words.{Fits}
 

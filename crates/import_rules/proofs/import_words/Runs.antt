@@ -28,7 +28,8 @@ use Rattle.import_rules.specs.import_words.Words.{Fits, placed_from}
 use Rattle.import_rules.proofs.import_words.Taken.{import_kind, import_arguments, words_first, words_later, with_more, more_next}
 
 -- the words of the import record at a place are those of its import
-read_words : (W : List ℕ) (a : ℕ) → kind_of (get_or W a 0) ≡ 10 → (i : ℕ) → i < import_size → get_or W (a + i) 0 ≡ get_or (import_words (import_at W a)) i 0
+read_words : (W : List ℕ) (a : ℕ) → kind_of (get_or W a 0) ≡ 10 → (i : ℕ) → i < import_size
+    → get_or W (a + i) 0 ≡ get_or (import_words (import_at W a)) i 0
 read_words W a e zero h =
     let f : get_or W a 0 / 268435456 ≡ 10 = e in
     let g : get_or W a 0 ≡ 0xA0000000 + get_or W a 0 % 268435456 = omega arith in

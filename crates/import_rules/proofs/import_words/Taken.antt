@@ -5,8 +5,8 @@ use mathlib.Core.List.{List, [], ◌∷◌, ◌++◌, append-nil}
 use mathlib.Core.Bool.{true}
 use native.Mathlib.Omega.{arith}
 use native.Mathlib.Nat.{add-zero}
-use borrow.Author.Tests.{eq-eqb, le-leb, leb-true, ltb-true}
-use lib.Dec.{eqb, leb, ltb}
+use borrow.Author.Tests.{le-leb, leb-true, ltb-true}
+use lib.Dec.{leb, ltb}
 use lib.ListN.{length, get_or, get_or-append}
 use lib.Seq.{append_snoc, get_or-append-add}
 use Rattle.snapshot.specs.Words.{kind_of, pay_of, arguments_of, arguments_at}
@@ -20,6 +20,7 @@ use Rattle.accept.proofs.Bools.{and_two, and_four}
 use Rattle.edit_rules.specs.Entries.{moved_import, with_lists}
 use Rattle.edit_rules.proofs.scope_edits.Stepped.{Taking, taken_step, arguments_same}
 use Rattle.edit_rules.proofs.scope_edits.Folded.{records_take}
+use Rattle.edit_rules.proofs.scope_edits.Inserted.{kind_none}
 use Rattle.import_rules.specs.Collect.{import_words, words_of}
 use Rattle.import_rules.specs.import_words.Words.{Fits, placed_from}
 
@@ -55,9 +56,6 @@ fits_small s x l f =
       container = omega arith;
       bits = omega arith;
     }
-
-kind_none : (w : ℕ) → w < 268435456 → eqb (kind_of w) 0 ≡ true
-kind_none w h = eq-eqb (w / 268435456) 0 (omega arith)
 
 follows_import : (last : ℕ) → last ≤ 10 → follows last 10 ≡ true
 follows_import last h = rw (le-leb last 10 h)
@@ -182,7 +180,8 @@ over_next X n b last s x xs e r =
     }
 
 pub over_imports : (X : List ℕ) (xs : List Import) (n b last : ℕ) (s : Snapshot) → Limits (counts_of s) → last ≤ 10 → Each (Fits s) xs
-    → ((i : ℕ) → i < import_size * length xs → get_or X (b + i) 0 ≡ get_or (words_of xs) i 0) → b + import_size * length xs ≤ length X → length X ≤ n + b
+    → ((i : ℕ) → i < import_size * length xs → get_or X (b + i) 0 ≡ get_or (words_of xs) i 0) → b + import_size * length xs ≤ length X
+    → length X ≤ n + b
     → Over X n b last s xs
 unfolding placed_from
 over_imports X [] n b last s lim low fits at within enough =

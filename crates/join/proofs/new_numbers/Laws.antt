@@ -23,7 +23,7 @@ IsRefused : Verdict → Type 0
 IsRefused (refuse n at) = Unit
 IsRefused (accept s) = ⊥
 
-apart : {n at : ℕ} {s : Snapshot} → refuse n at ≡ accept s → ⊥
+pub apart : {n at : ℕ} {s : Snapshot} → refuse n at ≡ accept s → ⊥
 unfolding IsRefused
 apart e = subst IsRefused e tt
 

@@ -76,7 +76,8 @@ module _ {R : Type 0} (same : R → R → Bool) (d : R) (xs ys : List R) where
       ap (λ l. length (select is_fresh l)) e ∙ select_snoc is_fresh (take n ys) (get_or ys n d)
 
   -- what place-walk and count give is the number
-  pub number_by_lem : (n old place fresh : ℕ) → old ≡ length xs → place ≡ place_of (same (get_or ys n d)) 0 xs → fresh ≡ length (select is_fresh (take n ys))
+  pub number_by_lem : (n old place fresh : ℕ) → old ≡ length xs → place ≡ place_of (same (get_or ys n d)) 0 xs
+      → fresh ≡ length (select is_fresh (take n ys))
       → number_by old place fresh ≡ merged_number same d xs ys n
   unfolding merged_number
   number_by_lem n old place fresh o e f =

@@ -141,7 +141,8 @@ module _ (W X A : List ℕ) (i at k count whole : ℕ)
     name_hit P {r} h q g t =
         place_hit is_it whole k _ e (name_at W at) _ (names_next W at k count h) (known_one W X A P at i r q g ∙ t)
 
-    pub name_miss : (P : List ℕ) {r : Bool} {bytes size : ℕ} → k < count → r ≡ any (same_name (name_at W at)) (rows (λ j. name_at X (get_or P j 0)) 0 1)
+    pub name_miss : (P : List ℕ) {r : Bool} {bytes size : ℕ} → k < count
+        → r ≡ any (same_name (name_at W at)) (rows (λ j. name_at X (get_or P j 0)) 0 1)
         → get_or P 0 0 ≡ get_or A i 0 → r ≡ false → bytes ≡ pay_of (get_or W at 0) → size ≡ words_of bytes
         → whole ≡ place_of is_it (k + 1) (names_from W (at + 1 + size) (count - (k + 1)))
     name_miss P {r} h q g t b z =

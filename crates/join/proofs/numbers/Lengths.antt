@@ -8,13 +8,15 @@ use borrow.Author.Tests.{eqb-true, eqb-false, ne_eqb}
 use lib.Dec.{eqb}
 use lib.ListN.{length, length-append}
 use Rattle.snapshot.specs.Records.{Map, Module, Snapshot}
-use Rattle.snapshot.specs.Sizes.{crate_size, dependency_size, map_size, module_size, child_size, prelude_size, definition_size, scope_size, import_size}
+use Rattle.snapshot.specs.Sizes.{crate_size, dependency_size, map_size, module_size, child_size, prelude_size, definition_size, scope_size}
+use Rattle.snapshot.specs.Sizes.{import_size}
 use Rattle.snapshot.specs.Sizes.{extern_size, member_size}
 use Rattle.accept.specs.Valid.{Each, none, more}
 use Rattle.accept.proofs.Accepted.{by_test}
 use Rattle.edit_rules.specs.Entries.{scope_words}
 use Rattle.edit_rules.specs.Written.{name_words, crate_words, dependency_words, map_words, module_words, child_words, prelude_words, definition_words}
-use Rattle.edit_rules.specs.Written.{import_words, extern_words, member_words, each_words, words_within, tree_words, kinds_words, joined, snapshot_words}
+use Rattle.edit_rules.specs.Written.{import_words, extern_words, member_words, each_words, words_within, tree_words, kinds_words, joined}
+use Rattle.edit_rules.specs.Written.{snapshot_words}
 use Rattle.join_rules.proofs.Lists.{sized_length}
 
 -- the words of maps and modules

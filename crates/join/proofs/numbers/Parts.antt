@@ -8,7 +8,8 @@ use lib.ListN.{length, get_or}
 use Rattle.snapshot.specs.Lists.{rows}
 use Rattle.snapshot.specs.Words.{pay_of, words_of}
 use Rattle.snapshot.specs.Records.{Name, Module, Snapshot, name_at}
-use Rattle.snapshot.specs.Layouts.{crate_base, dependency_base, map_base, child_base, prelude_base, definition_base, scope_base, import_base, extern_base}
+use Rattle.snapshot.specs.Layouts.{crate_base, dependency_base, map_base, child_base, prelude_base, definition_base, scope_base, import_base}
+use Rattle.snapshot.specs.Layouts.{extern_base}
 use Rattle.snapshot.specs.Layouts.{member_base, table_words, snap_of}
 use Rattle.snapshot.specs.declared.layout.Layout.{Layout}
 use Rattle.snapshot.proofs.Laws.{length_rows}
@@ -20,7 +21,8 @@ use Rattle.accept.proofs.Stable.{reads_stay}
 use Rattle.accept.proofs.Valid.{accepted_valid}
 use Rattle.find_path_spec.specs.Line.{snapshot_of}
 use Rattle.edit_rules.specs.Entries.{scope_words}
-use Rattle.edit_rules.specs.Written.{name_words, crate_words, dependency_words, child_words, prelude_words, definition_words, import_words, extern_words}
+use Rattle.edit_rules.specs.Written.{name_words, crate_words, dependency_words, child_words, prelude_words, definition_words, import_words}
+use Rattle.edit_rules.specs.Written.{extern_words}
 use Rattle.edit_rules.specs.Written.{member_words, each_words, tree_words, kinds_words, joined, snapshot_words}
 use Rattle.edit_rules.proofs.scope_edits.Written.{accepted_written}
 use Rattle.join_rules.proofs.Runs.{At, at_left, at_right, at_next, at_rows, pay_is}
@@ -56,7 +58,8 @@ names_stand {X} {p} (x ∷ xs) (more h hs) (more f fs) at =
     let g = h.size in
     let q : after_name X p ≡ p + length (name_words x) = omega arith in
     ap₂ (λ y ys. y ∷ ys) e
-    (ap (λ j. names_from X j (length xs)) q ∙ names_stand {p = p + length (name_words x)} xs hs fs (at_right (name_words x) (each_words name_words xs) at))
+    (ap (λ j. names_from X j (length xs)) q
+    ∙ names_stand {p = p + length (name_words x)} xs hs fs (at_right (name_words x) (each_words name_words xs) at))
 
 at_whole : (W : List ℕ) → At W 0 W
 at_whole W = record { same = λ i h. ap (λ j. get_or W j 0) (zero-add i); within = omega arith }
@@ -180,7 +183,8 @@ pub part_kinds : (W : List ℕ) (l : Layout) → Part W l → Kinds W l (part_of
 part_kinds W l p = kinds W l (part_of W) p.words p.counted (sizes (part_of W) (known_maps W (part_of W) p.same))
 
 -- the second's tables stay while their words do
-pub ready_stays : (W X A B : List ℕ) (l m : Layout) → Ready W X A l m → length B ≡ length A → ((i : ℕ) → i < table_words → get_or B i 0 ≡ get_or A i 0)
+pub ready_stays : (W X A B : List ℕ) (l m : Layout) → Ready W X A l m → length B ≡ length A
+    → ((i : ℕ) → i < table_words → get_or B i 0 ≡ get_or A i 0)
     → Ready W X B l m
 ready_stays W X A B l m r e kept =
     let a = r.room in

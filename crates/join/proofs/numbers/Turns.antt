@@ -134,7 +134,8 @@ module _ (W X A : List ℕ) (l m : Layout) (r : Ready W X A l m) where
       omega arith
 
   pub builtin_place : (d : ℕ) {k f name place : ℕ} → Holds A name_table (name_number s t) m.names → d < m.definitions
-      → k ≡ (definition_at X (definition_base m + definition_size * d)).kind → k ≡ 3 → f ≡ (definition_at X (definition_base m + definition_size * d)).first
+      → k ≡ (definition_at X (definition_base m + definition_size * d)).kind → k ≡ 3
+      → f ≡ (definition_at X (definition_base m + definition_size * d)).first
       → name ≡ get_or A (name_table + f) 0
       → place ≡ place_of (is_named name) 0 (records_of definition_at definition_size W (definition_base l) l.definitions)
       → place ≡ place_of (same_builtin s t (definition_at X (definition_base m + definition_size * d))) 0 s.definitions

@@ -14,7 +14,8 @@ use Rattle.std.proofs.lemmas.Slice.{put_mid-paste}
 use Rattle.snapshot.specs.Limits.{word_limit}
 use Rattle.snapshot.specs.Lists.{rows}
 use Rattle.snapshot.specs.Words.{kind_of, pay_of, arguments_at}
-use Rattle.snapshot.specs.Layouts.{dependency_base, map_base, child_base, prelude_base, definition_base, scope_base, import_base, extern_base, member_base}
+use Rattle.snapshot.specs.Layouts.{dependency_base, map_base, child_base, prelude_base, definition_base, scope_base, import_base, extern_base}
+use Rattle.snapshot.specs.Layouts.{member_base}
 use Rattle.snapshot.specs.Layouts.{word_count}
 use Rattle.snapshot.specs.declared.layout.Layout.{Layout}
 use Rattle.snapshot.proofs.Laws.{past, rows_next, rows_none, rows_snoc, rows_part, length_rows, get_d_rows}
@@ -43,10 +44,6 @@ pub role_long : (k i : ℕ) → 3 ≤ k → 8 ≤ i → 0 ≡ role_of k i
 unfolding role_of
 role_long k i h g = rw (role_of, le-ltb k 3 h, le-ltb i 8 g)
 
-pub role_read : (k i : ℕ) → 3 ≤ k → i < 8 → get_or role_table (8 * k + i - 24) 0 ≡ role_of k i
-unfolding role_of
-role_read k i h g = rw (role_of, le-ltb k 3 h, lt-ltb i 8 g)
-
 pub or_none_lem : (m n : ℕ) → n ≡ 0 → 0 ≡ or_none (λ k. m + k) n
 or_none_lem m n e = rw e
 
@@ -64,9 +61,6 @@ module _ (e : Numbers) (k n : ℕ) where
 
   pub first_builtin : k ≡ 3 → e.names n ≡ first_to e (definition_of k n)
   first_builtin h = sym (ap (λ j. first_to e (definition_of j n)) h)
-
-  pub first_module : (k ≡ 2 → ⊥) → (k ≡ 3 → ⊥) → e.modules n ≡ first_to e (definition_of k n)
-  first_module a b = rw (first_to, ne_eqb k 2 a, ne_eqb k 3 b)
 
   pub second_variant : k ≡ 2 → e.names n ≡ second_to e (definition_of k n)
   second_variant h = sym (ap (λ j. second_to e (definition_of j n)) h)
@@ -127,7 +121,8 @@ module _ (e : Numbers) (p v n : ℕ) where
 
 module _ (e : Numbers) (X : List ℕ) (at : ℕ) where
   pub word_head : (i : ℕ) → i ≡ 0 → moved_word e X at i
-      ≡ head_of (kind_of (get_or X at 0)) (field_to e (pay_of (get_or X at 0)) (get_or X (at + 4) 0) (role_of (kind_of (get_or X at 0)) i) (pay_of (get_or X at 0)))
+      ≡ head_of (kind_of (get_or X at 0))
+      (field_to e (pay_of (get_or X at 0)) (get_or X (at + 4) 0) (role_of (kind_of (get_or X at 0)) i) (pay_of (get_or X at 0)))
   unfolding moved_word
   word_head i h = rw h
 
@@ -249,7 +244,8 @@ stored f {write} {to} n i T₀ {T} e a b q =
 
 -- n words of a list stored as one part
 pub stored_part : (W : List ℕ) {write : Bool} {to : ℕ} (from n k : ℕ) (T : List ℕ) {ys : List ℕ} → not write ≡ false
-    → from + n ≤ length W → to + n ≤ length T → k ≡ n → ys ≡ take n (drop from W) → Wrote write to (rows (λ i. get_or W (from + i) 0) 0 n) T (put_mid to k T ys) (to + n)
+    → from + n ≤ length W → to + n ≤ length T → k ≡ n → ys ≡ take n (drop from W)
+    → Wrote write to (rows (λ i. get_or W (from + i) 0) 0 n) T (put_mid to k T ys) (to + n)
 unfolding written
 stored_part W {write} {to} from n k T {ys} e h g q p =
     let zs = rows (λ i. get_or W (from + i) 0) 0 n in
@@ -296,9 +292,6 @@ pub going_start : (write : Bool) {ws left : List ℕ} (to : ℕ) (T : List ℕ) 
 going_start write to T e = record { passed = []; whole = e; wrote = wrote_none refl }
 
 module _ {write : Bool} {ws : List ℕ} {to : ℕ} {T₀ left : List ℕ} {t : ℕ} {T : List ℕ} (g : Going write ws to T₀ left t T) where
-  pub going_size : length T ≡ length T₀
-  going_size = wrote_size g.wrote
-
   pub going_space : (xs ys : List ℕ) → left ≡ xs ++ ys → Space write to ws T₀ → Space write t xs T
   going_space xs ys e s =
       space_first xs ys (space_as (space_rest g.passed left (space_as s g.whole) g.wrote) e)
@@ -321,7 +314,8 @@ module _ (A : List ℕ) (l : Layout) (X : List ℕ) (at n : ℕ) where
   unfolding kept_at
   kept_name {k} {r} a b e = rw (kept_at, eq-eqb (kind_of (get_or X at 0)) 1 (sym a ∙ b), e)
 
-  pub kept_definition : {k r : ℕ} → k ≡ kind_of (get_or X at 0) → k ≡ 8 → r ≡ get_or A (definition_table + n) 0 → leb l.definitions r ≡ kept_at A l X at n
+  pub kept_definition : {k r : ℕ} → k ≡ kind_of (get_or X at 0) → k ≡ 8 → r ≡ get_or A (definition_table + n) 0
+      → leb l.definitions r ≡ kept_at A l X at n
   unfolding kept_at
   kept_definition {k} {r} a b e =
       let q : kind_of (get_or X at 0) ≡ 8 = sym a ∙ b in

@@ -8,7 +8,8 @@ use Rattle.std.specs.Prelude.{None}
 use Rattle.std.proofs.lemmas.Option.{none-some}
 use Rattle.snapshot.specs.Lists.{rows}
 use Rattle.snapshot.specs.Kinds.{kind_with}
-use Rattle.snapshot.specs.declared.kind.Kind.TheVariants.{Name, Crate, Dependency, Map, Module, Child, Prelude, Definition, Scope, Import, Extern, Member}
+use Rattle.snapshot.specs.declared.kind.Kind.TheVariants.{Name, Crate, Dependency, Map, Module, Child, Prelude, Definition, Scope, Import, Extern}
+use Rattle.snapshot.specs.declared.kind.Kind.TheVariants.{Member}
 use Rattle.join.specs.records.Moves.{role_of}
 use Rattle.join.specs.records.Roles.{role_number}
 use Rattle.join.specs.declared.records.fields.Role.{Role}
@@ -24,7 +25,8 @@ role_twelve (suc (suc (suc (suc zero)))) = refl
 role_twelve (suc (suc (suc (suc (suc zero))))) = refl
 role_twelve (suc (suc (suc (suc (suc (suc zero)))))) = refl
 role_twelve (suc (suc (suc (suc (suc (suc (suc zero))))))) = refl
-role_twelve (suc (suc (suc (suc (suc (suc (suc (suc i)))))))) = role_long 12 (suc (suc (suc (suc (suc (suc (suc (suc i)))))))) (omega arith) (omega arith)
+role_twelve (suc (suc (suc (suc (suc (suc (suc (suc i)))))))) =
+    role_long 12 (suc (suc (suc (suc (suc (suc (suc (suc i)))))))) (omega arith) (omega arith)
 
 pub role_far : (k i : ℕ) → 8 ≤ i → 0 ≡ role_of k i
 role_far zero i h = role_plain 0 i (omega arith)

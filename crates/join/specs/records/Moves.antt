@@ -4,7 +4,8 @@ use Rattle.std.specs.Prelude.{ℕ, zero, suc, ◌+◌, ◌-◌, ◌*◌, List, [
 use Rattle.snapshot.specs.Lists.{rows}
 use Rattle.snapshot.specs.Words.{kind_of, pay_of, arguments_at}
 use Rattle.snapshot.specs.Records.{Definition}
-use Rattle.snapshot.specs.Layouts.{crate_base, dependency_base, map_base, child_base, prelude_base, definition_base, scope_base, import_base, extern_base}
+use Rattle.snapshot.specs.Layouts.{crate_base, dependency_base, map_base, child_base, prelude_base, definition_base, scope_base, import_base}
+use Rattle.snapshot.specs.Layouts.{extern_base}
 use Rattle.snapshot.specs.Layouts.{member_base, word_count}
 use Rattle.snapshot.specs.declared.layout.Layout.{Layout}
 use Rattle.edit_rules.specs.Written.{head_of, joined}

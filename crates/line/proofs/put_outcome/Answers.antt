@@ -13,7 +13,11 @@ slice_bounds-put_path-end c =
     search (rules, c.well_formed.1.1.1.0)
 
 pub put_path-requires : goal.put_path-requires
-put_path-requires c = record { room = omega (arith, c.requires.0, c.put-a.ensures.next, c.put-a.auto.out); count_bound = omega (arith, c.requires.1, slice_bounds-put_path-end c) }
+put_path-requires c =
+    record {
+      room = omega (arith, c.requires.0, c.put-a.ensures.next, c.put-a.auto.out);
+      count_bound = omega (arith, c.requires.1, slice_bounds-put_path-end c);
+    }
 
 pub returns-then-r : goal.returns-then-r
 unfolding path_text

@@ -94,7 +94,8 @@ deeper =
     ∷ 0 ∷ 0x50000002 ∷ 0 ∷ 0x40000000 ∷ 2 ∷ 0 ∷ 0x50000003 ∷ 0 ∷ []
 
 abbrev pub deeper_snapshot : Snapshot
-deeper_snapshot = one_crate (a_map 0 ∷ a_map 1 ∷ a_map 3 ∷ a_map 2 ∷ []) (a_module 0 0 ∷ a_module 1 0 ∷ a_module 1 2 ∷ a_module 2 0 ∷ a_module 3 0 ∷ [])
+deeper_snapshot =
+    one_crate (a_map 0 ∷ a_map 1 ∷ a_map 3 ∷ a_map 2 ∷ []) (a_module 0 0 ∷ a_module 1 0 ∷ a_module 1 2 ∷ a_module 2 0 ∷ a_module 3 0 ∷ [])
 
 pub deeper_accepted : verdict deeper ≡ accept deeper_snapshot
 unfolding verdict records step_at record_step finish arguments_from arguments_of crate_step map_step module_step rows any all
@@ -113,7 +114,8 @@ nested =
     ∷ 0 ∷ 0x50000002 ∷ 0 ∷ 0x40000000 ∷ 4 ∷ 0 ∷ 0x50000003 ∷ 0 ∷ []
 
 abbrev pub nested_snapshot : Snapshot
-nested_snapshot = one_crate (a_map 0 ∷ a_map 2 ∷ a_map 3 ∷ a_map 4 ∷ []) (a_module 0 0 ∷ a_module 0 1 ∷ a_module 1 0 ∷ a_module 2 0 ∷ a_module 3 0 ∷ [])
+nested_snapshot =
+    one_crate (a_map 0 ∷ a_map 2 ∷ a_map 3 ∷ a_map 4 ∷ []) (a_module 0 0 ∷ a_module 0 1 ∷ a_module 1 0 ∷ a_module 2 0 ∷ a_module 3 0 ∷ [])
 
 pub nested_accepted : verdict nested ≡ accept nested_snapshot
 unfolding verdict records step_at record_step finish arguments_from arguments_of crate_step map_step module_step rows any all

@@ -1,5 +1,5 @@
 -- Laws of the line with its route.
-use Prim.Native.Nat.{ℕ, zero, suc, ◌+◌, ◌/◌, ◌%◌, ◌≤◌, ◌<◌}
+use Prim.Native.Nat.{ℕ, ◌+◌, ◌/◌, ◌%◌, ◌≤◌, ◌<◌}
 use mathlib.Core.Path.{◌≡◌, refl, sym, ◌∙◌, ap, ap₂, subst}
 use mathlib.Core.List.{List, [], ◌∷◌, ◌++◌, append_assoc, append-nil}
 use mathlib.Core.Bool.{true, false, ◌||◌}
@@ -22,7 +22,8 @@ use Rattle.printing.proofs.Laws.{put_as}
 use Rattle.find_path_spec.specs.declared.Question.{Question}
 use Rattle.find_path_spec.specs.declared.Report.{Report}
 use Rattle.find_path_spec.specs.Report.{refused, report_of}
-use Rattle.find_path_spec.specs.Line.{bytes_of, decimal, rule_names, step_text, steps_text, route_text, line_in, routed_line_in, routed_line_of, snapshot_of}
+use Rattle.find_path_spec.specs.Line.{bytes_of, decimal, rule_names, step_text, steps_text, route_text, line_in, routed_line_in, routed_line_of}
+use Rattle.find_path_spec.specs.Line.{snapshot_of}
 use Rattle.find_path_spec.proofs.laws.Reports.{report_bounded}
 use Rattle.answer.specs.checked.Questioned.{Questioned}
 use Rattle.answer.proofs.checked.Putting.{refusal_only}
@@ -59,7 +60,8 @@ pub route_found : (r : Report) → (eqb r.outcome 0 || eqb r.outcome 3) ≡ true
 unfolding route_text
 route_found r e = rw (route_text, e)
 
-pub routed_whole : (s : Snapshot) (from : ℕ) (r : Report) → (line_in s from r ++ route_text r) ++ bytes_of "\n" ≡ routed_line_in s from r ++ bytes_of "\n"
+pub routed_whole : (s : Snapshot) (from : ℕ) (r : Report)
+    → (line_in s from r ++ route_text r) ++ bytes_of "\n" ≡ routed_line_in s from r ++ bytes_of "\n"
 unfolding routed_line_in
 routed_whole s from r = refl
 

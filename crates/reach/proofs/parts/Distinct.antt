@@ -1,36 +1,22 @@
 -- One record for each distinct item: no two are for the same one, and every record's item is there.
-use mathlib.Core.Path.{◌≡◌, refl, sym, ◌∙◌, ap, ap₂}
+use mathlib.Core.Path.{◌≡◌, sym, ◌∙◌, ap, ap₂}
 use mathlib.Core.List.{List, [], ◌∷◌, ◌++◌}
-use mathlib.Core.Bool.{Bool, true, false, ◌&&◌, ◌||◌, false≢true}
-use borrow.Author.Tests.{eq-eqb}
+use mathlib.Core.Bool.{Bool, true, false, ◌||◌, false≢true}
 use Rattle.snapshot.specs.Lists.{any}
 use Rattle.snapshot.specs.Records.{Snapshot, Scope}
 use Rattle.accept.specs.Valid.{Each, none, more}
 use Rattle.accept.proofs.Accepted.{by_test}
-use Rattle.accept.proofs.Bools.{each_map}
+use Rattle.accept.proofs.Bools.{each_map, or_none_lem}
 use Rattle.hir_def.specs.Items.{same_item}
 use Rattle.hir_def.specs.declared.Item.{Item}
-use Rattle.hir_def.specs.declared.Item.TheVariants.{Mod, Def}
-use Rattle.read_back.proofs.Exact.{same_item_lem}
+use Rattle.read_back.proofs.Exact.{same_item_lem, same_self}
+use Rattle.find_path_spec.proofs.laws.Fewer.{or_right}
 use Rattle.reach.specs.parts.Reach.{item_in, is_met, new_from, distinct}
 
 -- no element is for the item of an earlier one
 pub data Apart (s : Snapshot) : List Scope → Type 0 where
   end : Apart s []
   next : {e : Scope} {es : List Scope} → Each (λ d. same_item (item_in s e) (item_in s d) ≡ false) es → Apart s es → Apart s (e ∷ es)
-
-or_none_lem : (a b : Bool) → (a || b) ≡ false → (a ≡ false) × (b ≡ false)
-or_none_lem true b e = absurd (false≢true (sym e))
-or_none_lem false b e = (refl, e)
-
-or_right : (a b : Bool) → b ≡ true → (a || b) ≡ true
-or_right true b e = refl
-or_right false b e = e
-
-same_self : (a : Item) → same_item a a ≡ true
-unfolding same_item
-same_self (Mod m) = eq-eqb m.0 m.0 refl
-same_self (Def ns d) = ap₂ (λ x y. x && y) (eq-eqb ns.0 ns.0 refl) (eq-eqb d.0 d.0 refl)
 
 module _ (s : Snapshot) where
   abbrev same : Scope → Scope → Bool

@@ -34,10 +34,12 @@ use Rattle.reach.specs.parts.Within.{Within}
 -- the test of one earlier record
 pub met_test : (W A : List ℕ) (l : Layout) (j k : ℕ) {b : ℕ} {x y : Item} {r : Bool} → b ≡ scope_base l → r ≡ same_item x y
     → x ≡ item_in (snap_of W A l) (scope_at W (b + scope_size * j)) → y ≡ item_in (snap_of W A l) (scope_at W (b + scope_size * k))
-    → same_item (item_in (snap_of W A l) (scope_at W (scope_base l + scope_size * j))) (item_in (snap_of W A l) (scope_at W (scope_base l + scope_size * k))) ≡ r
+    → same_item (item_in (snap_of W A l) (scope_at W (scope_base l + scope_size * j)))
+    (item_in (snap_of W A l) (scope_at W (scope_base l + scope_size * k))) ≡ r
 met_test W A l j k e t p q =
     let S = snap_of W A l in
-    sym (t ∙ ap₂ same_item (p ∙ ap (λ b. item_in S (scope_at W (b + scope_size * j))) e) (q ∙ ap (λ b. item_in S (scope_at W (b + scope_size * k))) e))
+    sym (t ∙ ap₂ same_item (p ∙ ap (λ b. item_in S (scope_at W (b + scope_size * j))) e)
+    (q ∙ ap (λ b. item_in S (scope_at W (b + scope_size * k))) e))
 
 module _ (r : Report) where
   pub found_column : r.outcome ≡ 0 → r.count ≡ column r

@@ -1,4 +1,4 @@
--- The reach on document 01's worked snapshot, and on one with paths that mislead, computed.
+-- The reach on the worked snapshot, and on one with paths that mislead, computed.
 use Prim.Native.Nat.{ℕ}
 use mathlib.Core.Path.{◌≡◌, refl}
 use mathlib.Core.Bool.{Bool, true}
@@ -24,7 +24,8 @@ row a m p o f n l = record { area = a; viewer = record { from = record { 0 = m }
 
 -- the lines are those of the definition; `passes` unfolds the search
 pub passes_all : List ℕ → List Row → Bool
-unfolding passes is_met new_from distinct report_for column names_found added tallied tally_all reach_in refused_reach reach_by reach_unless reach_of reach_line
+unfolding passes is_met new_from distinct report_for column names_found added tallied tally_all reach_in refused_reach reach_by reach_unless reach_of
+    reach_line
 passes_all words table = all (λ r. eq_list (reach_line (reach_of words r.area r.viewer)) (bytes_of r.line)) table
 
 -- the module `a` and the function `f`

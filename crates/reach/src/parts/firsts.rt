@@ -13,7 +13,8 @@ use snapshot::records::Records;
 /// Whether a scope record before the one numbered k is for the same item.
 pub fn is_met(records: &Records, k: usize) -> bool
     requires { k < records.now.layout.scopes }
-    ensures { (A : List ℕ) → result ≡ is_met (snap_by records.now A) (records_of scope_at scope_size records.now.words.now (scope_base records.now.layout) k)
+    ensures { (A : List ℕ) → result ≡ is_met (snap_by records.now A)
+        (records_of scope_at scope_size records.now.words.now (scope_base records.now.layout) k)
         (scope_at records.now.words.now (scope_base records.now.layout + scope_size * k)) }
 {
     // `base + size * k` as in a `Span`: a method for it would be this sum under a name.

@@ -8,7 +8,8 @@ use Rattle.snapshot.specs.Lists.{rows, any, all, eq_list}
 use Rattle.snapshot.specs.Words.{arguments_of}
 use Rattle.snapshot.specs.Records.{Snapshot}
 use Rattle.check_rules.specs.Tests.{text_bound, padded}
-use Rattle.check_rules.specs.Steps.{name_step, crate_step, dependency_step, map_step, module_step, child_step, prelude_step, definition_step, scope_step}
+use Rattle.check_rules.specs.Steps.{name_step, crate_step, dependency_step, map_step, module_step, child_step, prelude_step, definition_step}
+use Rattle.check_rules.specs.Steps.{scope_step}
 use Rattle.check_rules.specs.Steps.{import_step, extern_step, member_step}
 use Rattle.check_rules.specs.Verdict.{Verdict, refuse, accept, arguments_from, record_step, step_at, finish, records, verdict}
 use Rattle.module_tree.specs.rules.Modules.{place_of, module_of, map_of, root_of, own_map, crate_root, or_else, containing}

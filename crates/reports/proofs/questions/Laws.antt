@@ -19,7 +19,8 @@ pub fits_not : (n m : ℕ) → question_limit < n / question_size → false ≡ 
 unfolding batch_fits
 fits_not n m h = rw (batch_fits, lt-leb _ _ h)
 
-pub fits_by : (n m : ℕ) → n / question_size ≤ question_limit → (eqb (n % question_size) 0 && leb (report_size * (n / question_size)) m) ≡ batch_fits n m
+pub fits_by : (n m : ℕ) → n / question_size ≤ question_limit
+    → (eqb (n % question_size) 0 && leb (report_size * (n / question_size)) m) ≡ batch_fits n m
 unfolding batch_fits
 fits_by n m h = rw (batch_fits, le-leb _ _ h)
 

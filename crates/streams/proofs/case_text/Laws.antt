@@ -1,49 +1,12 @@
 -- Laws of the words of a text.
-use Rattle.std.proofs.Common.{◌≡◌, ℕ, zero, suc, ◌+◌, ◌-◌, ◌*◌, ◌%◌, ◌<◌, ◌≤◌, List, ◌∷◌, length, get_or, drop, set, sym, refl, ap, ◌∙◌, ap₂, add-one, arith, drop_of_length-le, drop-cons, le-ltb, lt-ltb, ne_eqb, le-leb}
+use Rattle.std.proofs.Common.{◌≡◌, ℕ, zero, suc, ◌+◌, ◌-◌, ◌*◌, ◌%◌, ◌<◌, ◌≤◌, List, ◌∷◌, length, get_or, drop, set, sym, refl, ap, ◌∙◌, ap₂, add-one}
+use Rattle.std.proofs.Common.{arith, drop_of_length-le, drop-cons, le-ltb, lt-ltb, ne_eqb, le-leb}
 use Rattle.std.proofs.Common.{length-drop, take}
 use Rattle.std.proofs.lemmas.List.{take_all}
 use Rattle.std.proofs.lemmas.List.{get_or-drop}
 use borrow.Author.Tests.{lt-leb}
 use Rattle.std.specs.Prelude.{Option, None, Some, unwrap_or}
 use Rattle.streams.specs.case_text.Words.{digit_of, next_word, under_way, Read, read_to, put_word, stored, raised_by, copied, repeated, read_from}
-
--- a digit
-
-pub digit_numeral : (b : ℕ) → 48 ≤ b → b < 58 → b - 48 ≡ digit_of b
-unfolding digit_of
-digit_numeral b h g = let l : b ≤ 57 = omega arith in sym (rw (digit_of, le-leb 48 b h, le-leb b 57 l))
-
-pub digit_letter : (b : ℕ) → 97 ≤ b → b < 103 → b - 87 ≡ digit_of b
-unfolding digit_of
-digit_letter b h g =
-    let f : 48 ≤ b = omega arith in
-    let m : 57 < b = omega arith in
-    let l : b ≤ 102 = omega arith in
-    sym (rw (digit_of, le-leb 48 b f, lt-leb b 57 m, le-leb 97 b h, le-leb b 102 l))
-
-pub digit_low : (b : ℕ) → b < 48 → (b ≡ 42 → ⊥) → 16 ≡ digit_of b
-unfolding digit_of
-digit_low b h n = let l : b < 97 = omega arith in sym (rw (digit_of, lt-leb 48 b h, lt-leb 97 b l, ne_eqb b 42 n))
-
-pub digit_between : (b : ℕ) → 58 ≤ b → b < 97 → 16 ≡ digit_of b
-unfolding digit_of
-digit_between b h g =
-    let f : 48 ≤ b = omega arith in
-    let n : b ≡ 42 → ⊥ = λ e. omega arith in
-    sym (rw (digit_of, le-leb 48 b f, lt-leb b 57 h, lt-leb 97 b g, ne_eqb b 42 n))
-
-pub digit_high : (b : ℕ) → 103 ≤ b → 16 ≡ digit_of b
-unfolding digit_of
-digit_high b h =
-    let f : 48 ≤ b = omega arith in
-    let m : 57 < b = omega arith in
-    let g : 97 ≤ b = omega arith in
-    let n : b ≡ 42 → ⊥ = λ e. omega arith in
-    sym (rw (digit_of, le-leb 48 b f, lt-leb b 57 m, le-leb 97 b g, lt-leb b 102 h, ne_eqb b 42 n))
-
-pub digit_star : (b : ℕ) → b ≡ 42 → 17 ≡ digit_of b
-unfolding digit_of
-digit_star b e = rw e
 
 -- a word that is under way
 
@@ -61,22 +24,12 @@ under_way_low : (v : ℕ) → (4294967296 + v) % 268435456 ≡ v % 268435456
 under_way_low v = omega arith
 
 pub with_digit : (o : Option ℕ) (v d : ℕ) → v ≡ unwrap_or o 0 → d < 16 → 4294967296 + (v % 268435456 * 16 + d) ≡ next_word (under_way o) d
-with_digit None v d e h = let q : 4294967296 + (v % 268435456 * 16 + d) ≡ 4294967296 + 0 % 268435456 * 16 + d = rw e (omega arith) in q ∙ next_digit 0 d h
+with_digit None v d e h =
+    let q : 4294967296 + (v % 268435456 * 16 + d) ≡ 4294967296 + 0 % 268435456 * 16 + d = rw e (omega arith) in q ∙ next_digit 0 d h
 with_digit (Some w) v d e h =
     let q : 4294967296 + (v % 268435456 * 16 + d) ≡ 4294967296 + (4294967296 + w) % 268435456 * 16 + d =
     rw (e, under_way_low w) (omega arith) in
     q ∙ next_digit (4294967296 + w) d h
-
--- a copy of a word
-
-module _ (w heads arguments : ℕ) where
-  pub raised_argument : w < 268435456 → (w + arguments) % 4294967296 ≡ raised_by w heads arguments
-  unfolding raised_by
-  raised_argument h = sym (rw (raised_by, lt-ltb w 268435456 h))
-
-  pub raised_head : 268435456 ≤ w → (w + heads) % 4294967296 ≡ raised_by w heads arguments
-  unfolding raised_by
-  raised_head h = sym (rw (raised_by, le-ltb w 268435456 h))
 
 -- a word that is whole
 
@@ -178,7 +131,8 @@ module _ (text W : List ℕ) (i n : ℕ) (h : i < length text) where
   abbrev next : Read → ℕ → Read
   next r w = read_from (drop (i + 1) text) w r
 
-  pub read_digit : (w v d : ℕ) → d ≡ digit_of (get_or text i 0) → d < 16 → v ≡ next_word w d → next (read_to W n) v ≡ read_from (drop i text) w (read_to W n)
+  pub read_digit : (w v d : ℕ) → d ≡ digit_of (get_or text i 0) → d < 16 → v ≡ next_word w d
+      → next (read_to W n) v ≡ read_from (drop i text) w (read_to W n)
   read_digit w v d e l g =
       read_next text i w d (read_to W n) (read_to W n) (read_to W n) v h e (stored_digit W n w d l) (repeated_other W n d (omega (arith, l))) g
 

@@ -1,5 +1,6 @@
 -- The words that a text in hexadecimal stands for.
-use Rattle.std.specs.Prelude.{ℕ, zero, suc, ◌+◌, ◌-◌, ◌*◌, ◌%◌, ◌<◌, true, false, ◌&&◌, ◌||◌, List, [], ◌∷◌, length, ◌==◌, nat_le, nat_lt, slice_index, slice_set, Option, None, Some}
+use Rattle.std.specs.Prelude.{ℕ, zero, suc, ◌+◌, ◌-◌, ◌*◌, ◌%◌, ◌<◌, true, false, ◌&&◌, ◌||◌, List, [], ◌∷◌, length, ◌==◌, nat_le, nat_lt}
+use Rattle.std.specs.Prelude.{slice_index, slice_set, Option, None, Some}
 use Rattle.streams.specs.declared.case_text.words.Mark.{Mark}
 use Rattle.streams.specs.declared.case_text.words.Mark.TheVariants.{Digit, Star, Gap}
 

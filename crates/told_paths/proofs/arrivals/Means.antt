@@ -110,7 +110,8 @@ module _ (v : View) (n : ℕ) {b : Bool} (ready : Ready b v n) where
   ready_meant = subst (Each (Meant s from)) (sym ready.same) (run_meant s from enough b)
 
   -- a module, by its row
-  pub leads_module : {item : Item} (q : Option LastStep) (m : ℕ) → item ≡ module_item m → LeadsTo (snap_in v.db) from types A n (way_of m (run_at A n)) q
+  pub leads_module : {item : Item} (q : Option LastStep) (m : ℕ) → item ≡ module_item m
+      → LeadsTo (snap_in v.db) from types A n (way_of m (run_at A n)) q
       → LeadsTo (snap_in v.db) from (ns_of item) A n (arrival b (snap_in v.db) from item) q
   unfolding ns_of
   leads_module q m e h =
@@ -156,11 +157,13 @@ module _ (v : View) (n : ℕ) {b : Bool} (ready : Ready b v n) where
               ∙ (or_first_some plain_name (past k d) (plain (scope_at W h).name) (ap (option_map (λ (y : Scope). plain y.name)) (sym q))
               ∙ ap (λ (y : ℕ). Some (plain y)) (sym ex));
           linked = omega arith;
-          place = λ placed. sym (ap (λ (y : ℕ). place_in (reads s from k (plain y))) ex ∙ ap place_in (plain_reads s from k d (scope_at W h) (sym q)));
+          place = λ placed. sym
+              (ap (λ (y : ℕ). place_in (reads s from k (plain y))) ex ∙ ap place_in (plain_reads s from k d (scope_at W h) (sym q)));
         }
 
     -- else by one name more after a row
-    pub leads_past : (q : Option LastStep) → None ≡ plain_entry (snap_in v.db) from (defined_item k d) → LeadsTo (snap_in v.db) from k A n (past k d) q
+    pub leads_past : (q : Option LastStep) → None ≡ plain_entry (snap_in v.db) from (defined_item k d)
+        → LeadsTo (snap_in v.db) from k A n (past k d) q
         → LeadsTo (snap_in v.db) from k A n (arrival b (snap_in v.db) from (defined_item k d)) q
     unfolding plain_name
     leads_past q e h =

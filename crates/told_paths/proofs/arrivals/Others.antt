@@ -11,7 +11,8 @@ use Rattle.accept.proofs.Accepted.{by_test}
 use Rattle.hir_def.specs.Finds.{first_of, or_first, select}
 use Rattle.hir_def.specs.Items.{types, crate_of, crate_data, ns_of, same_item, module_item, defined_item}
 use Rattle.hir_def.specs.declared.Item.{Item}
-use Rattle.nameable.specs.Paths.{Keyword, Path, keyword, absolute, Named, named, extern_named, externs_in, absolutes, keyword_module, module_named, reads}
+use Rattle.nameable.specs.Paths.{Keyword, Path, keyword, absolute, Named, named, extern_named, externs_in, absolutes, keyword_module, module_named}
+use Rattle.nameable.specs.Paths.{reads}
 use Rattle.nameable.specs.Paths.{item_in, means}
 use Rattle.nameable.specs.Breadth.{Way, added, keywords, nameless, single, onward, reached, is_item, first_to, arrival, turns}
 use Rattle.nameable.specs.Queue.{run}

@@ -17,10 +17,11 @@ use Rattle.hir_def.specs.ItemScope.{is_for}
 use Rattle.hir_def.specs.Nameres.{prelude_of}
 use Rattle.hir_def.specs.declared.Item.{Item}
 use Rattle.nameable.specs.Seen.{seen}
-use Rattle.nameable.specs.Paths.{Path, plain, Named, named, is_seen_in, as_named, entries_in, externs_in, entries_over, scopes_from, prelude_entries, firsts}
+use Rattle.nameable.specs.Paths.{Path, plain, Named, named, is_seen_in, as_named, entries_in, externs_in, entries_over, scopes_from, prelude_entries}
+use Rattle.nameable.specs.Paths.{firsts}
 use Rattle.nameable.specs.Paths.{reads, item_in, means}
 use Rattle.nameable.specs.Breadth.{single, is_item, first_to}
-use Rattle.nameable.proofs.Lists.{by_option, none_some, first_found_lem}
+use Rattle.nameable.proofs.Lists.{by_option, none_some, first_hit, first_miss, first_found_lem}
 use Rattle.nameable.proofs.Reached.{each_in, named_in_lem}
 use Rattle.nameable.proofs.Arrives.{same_item_lem, or_first_none}
 use Rattle.nameable.proofs.Lookups.{first_mapped, first_same, ns_of_item}
@@ -28,21 +29,14 @@ use Rattle.nameable.proofs.Queue.{first_of_append}
 use Rattle.told_paths.specs.arrivals.Steps.{is_plain_for, plain_in, plain_in_prelude, plain_entry}
 use Rattle.told_paths.proofs.arrivals.Others.{IsModule, externs_modules}
 
-first_hit : {A : Type 0} (p : A → Bool) (x : A) (xs : List A) → p x ≡ true → first_of p (x ∷ xs) ≡ Some x
-unfolding first_of
-first_hit p x xs e = rw (first_of, e)
-
-first_miss : {A : Type 0} (p : A → Bool) (x : A) (xs : List A) → p x ≡ false → first_of p (x ∷ xs) ≡ first_of p xs
-unfolding first_of
-first_miss p x xs e = rw (first_of, e)
-
 first_map : {A B : Type 0} (p : B → Bool) (f : A → B) (xs : List A) → first_of p (map f xs) ≡ option_map f (first_of (λ x. p (f x)) xs)
 unfolding first_of
 first_map p f [] = refl
 first_map p f (x ∷ xs) = by_test (p (f x)) (λ t. rw (t, first_of)) (λ t. rw (t, first_of) (first_map p f xs))
 
 -- one test more that the one found passes
-and_first : {A : Type 0} (p q : A → Bool) (xs : List A) → ((x : A) → first_of p xs ≡ Some x → q x ≡ true) → first_of p xs ≡ first_of (λ x. q x && p x) xs
+and_first : {A : Type 0} (p q : A → Bool) (xs : List A) → ((x : A) → first_of p xs ≡ Some x → q x ≡ true)
+    → first_of p xs ≡ first_of (λ x. q x && p x) xs
 unfolding first_of
 and_first p q [] h = refl
 and_first p q (x ∷ xs) h =

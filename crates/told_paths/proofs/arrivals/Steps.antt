@@ -47,9 +47,6 @@ row_path A n linked i h =
 
 -- The search for a module's row.
 module _ (A : List ℕ) (n m : ℕ) where
-  abbrev way_from : ℕ → Option Path
-  way_from i = way_of m (rows (way_at A) i (n - i))
-
   pub way_start : way_of m (run_at A n) ≡ way_of m (rows (way_at A) 0 (n - 0))
   unfolding run_at
   way_start = rows_whole (way_of m) (way_at A) n
@@ -130,7 +127,8 @@ module _ (W A : List ℕ) (l : Layout) (r : Reads W A l) (from n : ℕ) (item : 
       unfolding onward first
       one =
           e ∙ (ap (λ (ws : List Way). first_to s from item (onward s from (ns_of item) ws)) (rows_next (way_at A) i n less)
-          ∙ (first_append s from item (paths_after s from (ns_of item) (way_at A i)) (onward s from (ns_of item) (rows (way_at A) (i + 1) (n - (i + 1))))
+          ∙ (first_append s from item (paths_after s from (ns_of item) (way_at A i))
+          (onward s from (ns_of item) (rows (way_at A) (i + 1) (n - (i + 1))))
           ∙ ap (λ (o : Option Path). or_first o (rest (i + 1)))
           (after_first s valid from item (way_at A i) here ∙ ap (λ (t : ℕ). first (names_of s t item (seen s from))) (sym em))))
 

@@ -3,7 +3,7 @@ use Rattle.told_paths.specs.declared.arrivals.LastStep.{LastStep}
 use Prim.Native.Nat.{ℕ, ◌+◌, ◌≤◌, ◌<◌}
 use mathlib.Core.Path.{◌≡◌, refl, sym, ap, ◌∙◌}
 use mathlib.Core.List.{List}
-use mathlib.Core.Bool.{Bool, true, false, ◌&&◌, not}
+use mathlib.Core.Bool.{Bool, true, false, ◌&&◌, not, and_assoc}
 use Rattle.std.specs.Prelude.{Option, None, Some, option_map}
 use native.Mathlib.Omega.{arith}
 use borrow.Author.Tests.{lt-ltb, le-ltb, eq-eqb, ne_eqb, not-true, not-false}
@@ -30,16 +30,13 @@ use Rattle.told_paths.specs.declared.ToldPath.{ToldPath}
 use Rattle.told_paths.specs.Tells.{step_link, tell}
 use Rattle.told_paths.proofs.Laws.{told_gone, told_there}
 
-pub leads_link : (s : Snapshot) (from ns : ℕ) (A : List ℕ) (n : ℕ) (o : Option Path) (q : Option LastStep) → LeadsTo s from ns A n o q → step_link q < n + 3
+pub leads_link : (s : Snapshot) (from ns : ℕ) (A : List ℕ) (n : ℕ) (o : Option Path) (q : Option LastStep) → LeadsTo s from ns A n o q
+    → step_link q < n + 3
 unfolding LeadsTo step_link
 leads_link s from ns A n o (Some q) h = h.linked
 leads_link s from ns A n o None h = omega arith
 
 -- The variants of an enum by their name.
-
-and_left : (a b c : Bool) → (a && b) && c ≡ a && (b && c)
-and_left true b c = refl
-and_left false b c = refl
 
 module _ (s : Snapshot) (ns d e n : ℕ) where
   abbrev item : Item
@@ -60,7 +57,7 @@ module _ (s : Snapshot) (ns d e n : ℕ) where
         ∙ (first_mapped (λ (x : Named). eqb x.name n) (variant_named s ns) (is_variant_of e) s.members
         ∙ ap (option_map (variant_named s ns))
         (first_same (λ (x : Member). is_variant_of e x && eqb x.name n) (is_variant_named e n) s.members
-        (λ x i. and_left (eqb x.parent e) (eqb x.kind 0) (eqb x.name n))))
+        (λ x i. and_assoc (eqb x.parent e) (eqb x.kind 0) (eqb x.name n))))
 
     pub variant_none : None ≡ first_variant s e n → false ≡ is_item (defined_item ns d) (item_in (named n (variants_in s ns e)))
     unfolding item_in is_item
@@ -157,7 +154,8 @@ module _ (W A : List ℕ) (l : Layout) (r : Reads W A l) (from : ℕ) (b : Bool)
   pub run_reads : Reads W B l
   run_reads = stays_reads W A B l r g.stays
 
-  run_told : (item : Item) {t : Option ToldPath} → t ≡ option_map tell (shortest_of b (snap_of W B l) from item) → t ≡ option_map tell (shortest_of b (snap_of W A l) from item)
+  run_told : (item : Item) {t : Option ToldPath} → t ≡ option_map tell (shortest_of b (snap_of W B l) from item)
+      → t ≡ option_map tell (shortest_of b (snap_of W A l) from item)
   run_told item e = e ∙ ap (λ (u : Snapshot). option_map tell (shortest_of b u from item)) same_snap
 
 -- Both runs.

@@ -30,7 +30,8 @@ use Rattle.hir_def.specs.Items.{types, macros, definition_of, crate_data, item_o
 use Rattle.hir_def.specs.declared.Item.{Item}
 use Rattle.hir_def.specs.declared.Item.TheVariants.{Mod, Def}
 use Rattle.nameable.specs.Paths.{Keyword, supers, crate, Path, keyword, absolute, into, Named, named, as_named, entries_in, variant_named}
-use Rattle.nameable.specs.Paths.{variants_in, extern_named, absolutes, within, above_or, above, keyword_module, module_named, after, reads, item_in, place_in}
+use Rattle.nameable.specs.Paths.{variants_in, extern_named, absolutes, within, above_or, above, keyword_module, module_named, after, reads, item_in}
+use Rattle.nameable.specs.Paths.{place_in}
 use Rattle.nameable.specs.Queue.{seen_named}
 use Rattle.nameable.proofs.Lists.{none_some, first_found_lem}
 use Rattle.nameable.proofs.Reached.{each_in, item_in_lem}
@@ -216,7 +217,8 @@ module _ (s : Snapshot) where
     abbrev start_means : Keyword → Option Item
     start_means w = item_in (reads s from types (keyword w))
 
-    pub start_crate : (m : ModuleId) → kind ≡ Crate → m.0 ≡ crate_root s from → Some (Mod m) ≡ item_in (reads s from types (keyword (keyword_by kind u)))
+    pub start_crate : (m : ModuleId) → kind ≡ Crate → m.0 ≡ crate_root s from
+        → Some (Mod m) ≡ item_in (reads s from types (keyword (keyword_by kind u)))
     unfolding reads keyword_module module_named item_in keyword_by
     start_crate m e em =
         let same : keyword_by kind u ≡ crate = ap (λ (c : PathKind). keyword_by c u) e in
@@ -229,7 +231,8 @@ module _ (s : Snapshot) where
     other_kind (inr (inr (inl e))) = ap (λ (c : PathKind). keyword_by c u) e
     other_kind (inr (inr (inr e))) = ap (λ (c : PathKind). keyword_by c u) e
 
-    pub start_above : {o : Option Item} {m : ℕ} → (kind ≡ Plain) ⊎ ((kind ≡ SelfModule) ⊎ ((kind ≡ Super) ⊎ (kind ≡ Absolute))) → m ≡ module_around s from → o ≡ above_means u m
+    pub start_above : {o : Option Item} {m : ℕ} → (kind ≡ Plain) ⊎ ((kind ≡ SelfModule) ⊎ ((kind ≡ Super) ⊎ (kind ≡ Absolute)))
+        → m ≡ module_around s from → o ≡ above_means u m
         → o ≡ item_in (reads s from types (keyword (keyword_by kind u)))
     unfolding reads keyword_module keyword_by
     start_above e em eo =

@@ -98,7 +98,8 @@ module _ (s : Snapshot) (from : ℕ) (kind : PathKind) (u : ℕ) (N : List ℕ) 
       ap length (route_more ns k) ∙ omega (arith, more, route_size types k)
 
 -- k names of so many are read: the route, and what is meant
-pub record Walked (s : Snapshot) (from ns : ℕ) (kind : PathKind) (u : ℕ) (N : List ℕ) (count : ℕ) (here : Option Item) (route : List ℕ) (k : ℕ) : Type 0 where
+pub record Walked (s : Snapshot) (from ns : ℕ) (kind : PathKind) (u : ℕ) (N : List ℕ) (count : ℕ) (here : Option Item) (route : List ℕ)
+    (k : ℕ) : Type 0 where
   pub few : k ≤ count
   pub places : route ≡ padded (route_of s from (ns_of_first ns count k) (path_by kind u N k))
   pub means : here ≡ item_in (reads s from (ns_of_first ns count k) (path_by kind u N k))

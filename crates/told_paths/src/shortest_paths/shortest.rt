@@ -32,7 +32,8 @@ fn shortest_of(view: &View, n: usize, item: Item, named: bool) -> Option<ToldPat
 
 /// A shortest path to the item, one that does not begin with a name where there is one; the tables of the check stay.
 pub fn shortest(records: &Records, area: &mut [u32], from: ModuleId, item: Item) -> Option<ToldPath>
-    requires { Reads records.now.words.now area.old records.now.layout × (from.0 < records.now.layout.modules) × (row_at module_limit ≤ length area.old) }
+    requires { Reads records.now.words.now area.old records.now.layout × (from.0 < records.now.layout.modules)
+        × (row_at module_limit ≤ length area.old) }
     ensures value { result ≡ option_map tell (shortest_path (snap_by records.now area.old) from.0 item) }
     ensures stays { Stays area.old area.new }
 {

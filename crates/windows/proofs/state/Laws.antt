@@ -5,15 +5,12 @@ use mathlib.Core.Bool.{Bool, true, false}
 use mathlib.Core.List.{List, ◌++◌}
 use native.Mathlib.Omega.{arith}
 use borrow.Author.Tests.{lt-ltb, le-ltb, ltb-true, ltb-false}
-use borrow.Rule.Slice.PartMut.{mid_of, put_mid}
+use borrow.Rule.Slice.PartMut.{put_mid}
 use lib.Dec.{ltb}
 use lib.ListN.{length, get_or, take, drop, length-append, length-drop}
 use lib.Seq.{drop-drop, length-take-le}
 use Rattle.snapshot.specs.Refusals.{window_refusal, waits_refusal}
-use Rattle.find_path_spec.specs.declared.Question.{Question}
-use Rattle.reports.specs.questions.Questions.{question_of}
-use Rattle.reports.proofs.questions.Laws.{mid_end}
-use Rattle.windows.specs.rules.States.{waits, asked_by, with_row, first_from, served, place_fault}
+use Rattle.windows.specs.rules.States.{waits, with_row, first_from, served, place_fault}
 
 -- the first window that waits
 
@@ -90,13 +87,6 @@ fault_free S w e = free (waits S w) refl
     free false t = refl
 
 -- a question served
-
-pub asked_part : (S : List ℕ) (w : ℕ) (q : Question) → length S ≡ 65 → q ≡ question_of (mid_of (1 + 8 * w + 1) (65 - (1 + 8 * w + 1)) S)
-    → q ≡ asked_by S w
-unfolding asked_by
-asked_part S w q l e =
-    e ∙ ap (λ (n : ℕ). question_of (mid_of (1 + 8 * w + 1) (n - (1 + 8 * w + 1)) S)) (sym l) ∙ ap (λ (x : List ℕ). question_of x)
-    (mid_end (1 + 8 * w + 1) S)
 
 first_bound : (S : List ℕ) (w n : ℕ) → w < 8 → first_from S w n ≤ 8
 unfolding first_from

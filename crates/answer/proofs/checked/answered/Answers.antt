@@ -28,7 +28,8 @@ returns-in_err-layout c =
 pub invariant_of-records : goal.invariant_of-records
 invariant_of-records c = record {
   fits =
-      few_words c.args.words.now c.args.area.now c.in_ok-layout.layout (reads_of c.args.words.now c.args.area.now c.args.c c.requires _ c.in_ok-layout.was);
+      few_words c.args.words.now c.args.area.now c.in_ok-layout.layout
+      (reads_of c.args.words.now c.args.area.now c.args.c c.requires _ c.in_ok-layout.was);
 }
 
 pub returns-in_err-question_fault : goal.returns-in_err-question_fault
@@ -67,7 +68,8 @@ returns c =
     let f = c.report_in.ensures in
     let a = answer_found (snap_of s.words.now A c.in_ok-layout.layout) s.question.query s.question.fuel _ _ (c.in_ok-question_fault.ensures A)
     refl f.value in
-    let k = report_accepted s.words.now A s.c c.requires s.question.query s.question.fuel _ c.in_ok-layout.layout _ c.in_ok-layout.was f.area_unchanged a in
+    let k = report_accepted s.words.now A s.c c.requires s.question.query s.question.fuel _ c.in_ok-layout.layout _ c.in_ok-layout.was
+    f.area_unchanged a in
     record {
       report = report_verdict s.words.now area_limit s.question _ _ c.in_ok-call_fault.ensures refl k.0;
       checked = k.1;

@@ -12,6 +12,8 @@ returns-then-asks_at c =
 pub returns : goal.returns
 returns c =
     elim c.else-eq.branch [
-      | else-eq-via-then-eq+else-asks_at w ↦ text_unasked _ _ _ (sym w.asks_at.ensures ∙ w.if-asks_at.false) (put_as (ap (λ n. refusal n c.args.no.at) c.number.ensures.same) c.put_refusal.ensures)
-      | else-eq-via-else-eq w ↦ text_other _ _ _ (sym (c.eq.ensures ∙ form_same _) ∙ w.if-eq.false) (put_as (ap (λ n. refusal n c.args.no.at) c.number.ensures.same) c.put_refusal.ensures)
+      | else-eq-via-then-eq+else-asks_at w ↦ text_unasked _ _ _ (sym w.asks_at.ensures ∙ w.if-asks_at.false)
+          (put_as (ap (λ n. refusal n c.args.no.at) c.number.ensures.same) c.put_refusal.ensures)
+      | else-eq-via-else-eq w ↦ text_other _ _ _ (sym (c.eq.ensures ∙ form_same _) ∙ w.if-eq.false)
+          (put_as (ap (λ n. refusal n c.args.no.at) c.number.ensures.same) c.put_refusal.ensures)
     ]

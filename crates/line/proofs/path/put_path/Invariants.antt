@@ -9,5 +9,6 @@ use Rattle.line.proofs.path.put_path.Given as goal
 
 abbrev pub invariant-loop-i : goal.invariant-loop-i
 invariant-loop-i l =
-    (l.i ≤ length l.names) × (length l.out ≡ length l.initial.out) × Put l.initial.out l.initial.to (tail_to (written_of (snap_in l.db) l.edition) l.leading l.names l.i) l.out l.to
+    (l.i ≤ length l.names) × (length l.out ≡ length l.initial.out)
+    × Put l.initial.out l.initial.to (tail_to (written_of (snap_in l.db) l.edition) l.leading l.names l.i) l.out l.to
     × (l.to ≤ l.initial.to + 257 * l.i)

@@ -21,4 +21,5 @@ returns-then-kind-3 c = let p = c.put-then-kind-3.ensures in
     record { put = put_as (ap (λ k. joined (bytes_of "::") (prefix_parts k)) (sym c.if-kind-3.true)) p; upper_bound = omega (arith, p.next) }
 
 pub returns : goal.returns
-returns c = record { put = put_as (no_prefix c.args.kind c.if-kind.false c.if-kind-2.false c.if-kind-3.false) (put_none _ _); upper_bound = omega arith }
+returns c =
+    record { put = put_as (no_prefix c.args.kind c.if-kind.false c.if-kind-2.false c.if-kind-3.false) (put_none _ _); upper_bound = omega arith }

@@ -5,7 +5,8 @@ use Rattle.module_tree.proofs.Reading.{crate_there}
 use Rattle.module_tree.proofs.modules.crate_root.Goals as goal
 
 pub own-requires : goal.own-requires
-own-requires c = rw c.krate-c.ensures (crate_there c.args.db.now.records.words.now c.args.db.now.area.now c.args.db.now.records.layout c.args.db.now.reads
+own-requires c =
+    rw c.krate-c.ensures (crate_there c.args.db.now.records.words.now c.args.db.now.area.now c.args.db.now.records.layout c.args.db.now.reads
     c.args.m.0 c.requires)
 
 pub returns : goal.returns

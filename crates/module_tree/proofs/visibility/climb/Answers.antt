@@ -12,7 +12,8 @@ returns-in_default c =
     let g = c.loop-t in
     let n = (snap_of c.args.db.now.records.words.now c.args.db.now.area.now c.args.db.now.records.layout) in (
       climb_top n c.args.viewer
-          (climb_falls n (accepted_tree c.args.db.now.records.words.now (snap_of c.args.db.now.records.words.now c.args.db.now.area.now c.args.db.now.records.layout) c.args.db.now.reads.same)
+          (climb_falls n (accepted_tree c.args.db.now.records.words.now
+          (snap_of c.args.db.now.records.words.now c.args.db.now.area.now c.args.db.now.records.layout) c.args.db.now.reads.same)
           c.args.viewer) g.t.0 (rw (length_modules c.args.db.now.records.words.now c.args.db.now.area.now c.args.db.now.records.layout) g.invariant.1)
           (λ e. c.loop-t-test.true (c.map.ensures ∙ e))
           (none_number _ c.block.ensures c.in_default.is) ∙ sym g.invariant.0,
@@ -24,7 +25,8 @@ loop-t-smaller c =
     let g = c.loop-t in
     let n = (snap_of c.args.db.now.records.words.now c.args.db.now.area.now c.args.db.now.records.layout) in
     climb_less n c.args.viewer
-    (climb_falls n (accepted_tree c.args.db.now.records.words.now (snap_of c.args.db.now.records.words.now c.args.db.now.area.now c.args.db.now.records.layout) c.args.db.now.reads.same)
+    (climb_falls n (accepted_tree c.args.db.now.records.words.now
+    (snap_of c.args.db.now.records.words.now c.args.db.now.area.now c.args.db.now.records.layout) c.args.db.now.reads.same)
     c.args.viewer) g.t.0 (rw (length_modules c.args.db.now.records.words.now c.args.db.now.area.now c.args.db.now.records.layout) g.invariant.1)
     (λ e. c.loop-t-test.true (c.map.ensures ∙ e)) _
     (some_number _ c.block.ensures c.in-Some.is)
@@ -33,12 +35,15 @@ pub loop-t-preserved : goal.loop-t-preserved
 loop-t-preserved c =
     let g = c.loop-t in
     let n = (snap_of c.args.db.now.records.words.now c.args.db.now.area.now c.args.db.now.records.layout) in
-    let f = climb_falls n (accepted_tree c.args.db.now.records.words.now (snap_of c.args.db.now.records.words.now c.args.db.now.area.now c.args.db.now.records.layout)
+    let f = climb_falls n
+    (accepted_tree c.args.db.now.records.words.now (snap_of c.args.db.now.records.words.now c.args.db.now.area.now c.args.db.now.records.layout)
     c.args.db.now.reads.same) c.args.viewer in
     let e = some_number _ c.block.ensures c.in-Some.is in
-    let d = climb_less n c.args.viewer f g.t.0 (rw (length_modules c.args.db.now.records.words.now c.args.db.now.area.now c.args.db.now.records.layout) g.invariant.1)
+    let d = climb_less n c.args.viewer f g.t.0
+    (rw (length_modules c.args.db.now.records.words.now c.args.db.now.area.now c.args.db.now.records.layout) g.invariant.1)
     (λ e. c.loop-t-test.true (c.map.ensures ∙ e)) _ e in (
-      g.invariant.0 ∙ climb_on n c.args.viewer f g.t.0 (rw (length_modules c.args.db.now.records.words.now c.args.db.now.area.now c.args.db.now.records.layout)
+      g.invariant.0 ∙ climb_on n c.args.viewer f g.t.0
+          (rw (length_modules c.args.db.now.records.words.now c.args.db.now.area.now c.args.db.now.records.layout)
           g.invariant.1) (λ e. c.loop-t-test.true (c.map.ensures ∙ e))
           _ e,
       omega (arith, d, g.invariant.1),
@@ -49,7 +54,8 @@ returns c =
     let g = c.loop-t in
     let n = (snap_of c.args.db.now.records.words.now c.args.db.now.area.now c.args.db.now.records.layout) in (
       climb_here n c.args.viewer
-          (climb_falls n (accepted_tree c.args.db.now.records.words.now (snap_of c.args.db.now.records.words.now c.args.db.now.area.now c.args.db.now.records.layout) c.args.db.now.reads.same)
+          (climb_falls n (accepted_tree c.args.db.now.records.words.now
+          (snap_of c.args.db.now.records.words.now c.args.db.now.area.now c.args.db.now.records.layout) c.args.db.now.reads.same)
           c.args.viewer) g.t.0 (rw (length_modules c.args.db.now.records.words.now c.args.db.now.area.now c.args.db.now.records.layout) g.invariant.1)
           (sym c.map.ensures ∙ c.loop-t-test.false) ∙ sym g.invariant.0,
       g.invariant.1,

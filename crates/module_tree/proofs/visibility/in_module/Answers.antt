@@ -20,8 +20,10 @@ returns-then-ne c =
 pub returns : goal.returns
 returns c =
     let m = c.map-m.ensures in
-    c.meets.ensures ∙ ap (met (containing (snap_of c.args.db.now.records.words.now c.args.db.now.area.now c.args.db.now.records.layout)) c.args.viewer.0)
-    (c.climb-top.ensures.0 ∙ ap (λ k. climb (snap_of c.args.db.now.records.words.now c.args.db.now.area.now c.args.db.now.records.layout) k c.args.target.0) m)
+    c.meets.ensures ∙ ap (met (containing (snap_of c.args.db.now.records.words.now c.args.db.now.area.now c.args.db.now.records.layout))
+    c.args.viewer.0)
+    (c.climb-top.ensures.0
+    ∙ ap (λ k. climb (snap_of c.args.db.now.records.words.now c.args.db.now.area.now c.args.db.now.records.layout) k c.args.target.0) m)
     ∙ in_walk (snap_of c.args.db.now.records.words.now c.args.db.now.area.now c.args.db.now.records.layout) c.args.viewer.0 c.args.target.0
     (eqb-false _ _ (sym c.eq.ensures ∙ c.if-eq.false))
     (sym c.krate.ensures ∙ eqb-true _ _ (not-false _ (sym c.ne.ensures ∙ c.if-ne.false)) ∙ c.krate-2.ensures)

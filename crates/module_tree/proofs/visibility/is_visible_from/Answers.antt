@@ -10,13 +10,15 @@ use Rattle.module_tree.proofs.visibility.is_visible_from.Goals as goal
 
 pub returns-in-Public : goal.returns-in-Public
 returns-in-Public c =
-    visible_public (snap_of c.args.db.now.records.words.now c.args.db.now.area.now c.args.db.now.records.layout) _ (visibility_number c.args.visibility)
+    visible_public (snap_of c.args.db.now.records.words.now c.args.db.now.area.now c.args.db.now.records.layout) _
+    (visibility_number c.args.visibility)
     c.args.viewer.0 (ap visibility_kind c.in-Public.is)
 
 pub returns-in-InCrate : goal.returns-in-InCrate
 returns-in-InCrate c =
     c.eq.ensures ∙ ap₂ eqb c.krate.ensures (sym (ap visibility_number c.in-InCrate.is))
-    ∙ visible_crate (snap_of c.args.db.now.records.words.now c.args.db.now.area.now c.args.db.now.records.layout) _ (visibility_number c.args.visibility)
+    ∙ visible_crate (snap_of c.args.db.now.records.words.now c.args.db.now.area.now c.args.db.now.records.layout) _
+    (visibility_number c.args.visibility)
     c.args.viewer.0 (ap visibility_kind c.in-InCrate.is)
 
 pub returns-in-InModule : goal.returns-in-InModule

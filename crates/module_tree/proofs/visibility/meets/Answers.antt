@@ -11,8 +11,10 @@ pub returns-in_default : goal.returns-in_default
 returns-in_default c =
     let g = c.loop-v in
     let n = (snap_of c.args.db.now.records.words.now c.args.db.now.area.now c.args.db.now.records.layout) in
-    meets_end n (containing_falls n (accepted_tree c.args.db.now.records.words.now (snap_of c.args.db.now.records.words.now c.args.db.now.area.now c.args.db.now.records.layout)
-    c.args.db.now.reads.same)) g.v.0 c.args.target.0 (rw (length_modules c.args.db.now.records.words.now c.args.db.now.area.now c.args.db.now.records.layout)
+    meets_end n (containing_falls n
+    (accepted_tree c.args.db.now.records.words.now (snap_of c.args.db.now.records.words.now c.args.db.now.area.now c.args.db.now.records.layout)
+    c.args.db.now.reads.same)) g.v.0 c.args.target.0
+    (rw (length_modules c.args.db.now.records.words.now c.args.db.now.area.now c.args.db.now.records.layout)
     g.invariant.1) c.loop-v-test.true (none_number _ c.containing_module.ensures c.in_default.is)
     ∙ sym g.invariant.0
 
@@ -20,7 +22,8 @@ pub loop-v-smaller : goal.loop-v-smaller
 loop-v-smaller c =
     let g = c.loop-v in
     let n = (snap_of c.args.db.now.records.words.now c.args.db.now.area.now c.args.db.now.records.layout) in
-    containing_falls n (accepted_tree c.args.db.now.records.words.now (snap_of c.args.db.now.records.words.now c.args.db.now.area.now c.args.db.now.records.layout) c.args.db.now.reads.same)
+    containing_falls n (accepted_tree c.args.db.now.records.words.now
+    (snap_of c.args.db.now.records.words.now c.args.db.now.area.now c.args.db.now.records.layout) c.args.db.now.reads.same)
     g.v.0 _ (rw (length_modules c.args.db.now.records.words.now c.args.db.now.area.now c.args.db.now.records.layout) g.invariant.1)
     (some_number _ c.containing_module.ensures c.in-Some.is)
 
@@ -28,18 +31,27 @@ pub loop-v-preserved : goal.loop-v-preserved
 loop-v-preserved c =
     let g = c.loop-v in
     let n = (snap_of c.args.db.now.records.words.now c.args.db.now.area.now c.args.db.now.records.layout) in
-    let f = containing_falls n (accepted_tree c.args.db.now.records.words.now (snap_of c.args.db.now.records.words.now c.args.db.now.area.now c.args.db.now.records.layout)
+    let f = containing_falls n
+    (accepted_tree c.args.db.now.records.words.now (snap_of c.args.db.now.records.words.now c.args.db.now.area.now c.args.db.now.records.layout)
     c.args.db.now.reads.same) in
     let e = some_number _ c.containing_module.ensures c.in-Some.is in (
-      g.invariant.0 ∙ meets_on n f g.v.0 c.args.target.0 (rw (length_modules c.args.db.now.records.words.now c.args.db.now.area.now c.args.db.now.records.layout)
+      g.invariant.0 ∙ meets_on n f g.v.0 c.args.target.0
+          (rw (length_modules c.args.db.now.records.words.now c.args.db.now.area.now c.args.db.now.records.layout)
           g.invariant.1) c.loop-v-test.true _ e,
-      omega (arith, f g.v.0 _ (rw (length_modules c.args.db.now.records.words.now c.args.db.now.area.now c.args.db.now.records.layout) g.invariant.1) e, g.invariant.1),
+      omega (
+        arith,
+        f g.v.0 _ (rw (length_modules c.args.db.now.records.words.now c.args.db.now.area.now c.args.db.now.records.layout) g.invariant.1)
+            e,
+        g.invariant.1,
+      ),
     )
 
 pub returns : goal.returns
 returns c =
     let g = c.loop-v in
     let n = (snap_of c.args.db.now.records.words.now c.args.db.now.area.now c.args.db.now.records.layout) in
-    meets_here n (containing_falls n (accepted_tree c.args.db.now.records.words.now (snap_of c.args.db.now.records.words.now c.args.db.now.area.now c.args.db.now.records.layout)
-    c.args.db.now.reads.same)) g.v.0 c.args.target.0 (rw (length_modules c.args.db.now.records.words.now c.args.db.now.area.now c.args.db.now.records.layout)
+    meets_here n (containing_falls n
+    (accepted_tree c.args.db.now.records.words.now (snap_of c.args.db.now.records.words.now c.args.db.now.area.now c.args.db.now.records.layout)
+    c.args.db.now.reads.same)) g.v.0 c.args.target.0
+    (rw (length_modules c.args.db.now.records.words.now c.args.db.now.area.now c.args.db.now.records.layout)
     g.invariant.1) c.loop-v-test.false ∙ sym g.invariant.0

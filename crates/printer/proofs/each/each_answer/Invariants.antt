@@ -12,7 +12,8 @@ invariant-loop-at g l =
     goal.F-IsAlwaysCallable g l.each × Judged l.snapshot l.area l.c × (routed_limit ≤ length l.out)
     × ((later : List (List ℕ)) (last : _) → Turns l.words l.snapshot l.c l.at later
     → FoldsTo (λ p t q. CalledAt g.F.FnMut p t (Ok tt) q) l.each later last
-    → (texts : List (List ℕ)) × Turns l.words l.snapshot l.c l.k texts × FoldsTo (λ p t q. CalledAt g.F.FnMut p t (Ok tt) q) l.initial.each texts last)
+    → (texts : List (List ℕ)) × Turns l.words l.snapshot l.c l.k texts
+    × FoldsTo (λ p t q. CalledAt g.F.FnMut p t (Ok tt) q) l.initial.each texts last)
 
 abbrev pub decreases-loop-at : goal.decreases-loop-at
 decreases-loop-at g l = length l.words - l.at

@@ -44,6 +44,7 @@ returns c =
     let p = c.put_number-to.ensures in
     let z = rest_length c.args.numbers.now in
     record {
-      put = put_as (rest_done c.args.numbers.now (l.n-index + 1) (omega arith) (omega (arith, c.requires)) (omega arith)) (put_two p.put l.invariant.2);
+      put = put_as (rest_done c.args.numbers.now (l.n-index + 1) (omega arith) (omega (arith, c.requires)) (omega arith))
+          (put_two p.put l.invariant.2);
       upper_bound = omega (arith, c.requires, l.invariant.0, l.invariant.3, p.upper_bound);
     }

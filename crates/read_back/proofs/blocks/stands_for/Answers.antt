@@ -32,7 +32,8 @@ loop-b-preserved c =
     let f = outward_falls n (accepted_tree c.args.db.now.records.words.now n c.args.db.now.reads.same) in
     let e = some_number _ c.outward.ensures c.in-Some.is in
     let d = f g.t.0 _ (rw (length_modules c.args.db.now.records.words.now c.args.db.now.area.now c.args.db.now.records.layout) g.invariant.1) e in (
-      g.invariant.0 ∙ stands_on n f g.t.0 (rw (length_modules c.args.db.now.records.words.now c.args.db.now.area.now c.args.db.now.records.layout) g.invariant.1)
+      g.invariant.0 ∙ stands_on n f g.t.0
+          (rw (length_modules c.args.db.now.records.words.now c.args.db.now.area.now c.args.db.now.records.layout) g.invariant.1)
           _ e,
       omega (arith, d, g.invariant.1),
     )

@@ -17,7 +17,8 @@ returns-in_err-p c =
 pub stands_for-requires : goal.stands_for-requires
 stands_for-requires c =
     let n = snap_in c.args.view.now.db in
-    let m = c.stands_for-m.ensures.1 in (let f = (parent_fits n (accepted_tree c.args.view.now.db.records.words.now n c.args.view.now.db.reads.same) _ _
+    let m = c.stands_for-m.ensures.1 in
+    (let f = (parent_fits n (accepted_tree c.args.view.now.db.records.words.now n c.args.view.now.db.reads.same) _ _
     (rw (length_modules c.args.view.now.db.records.words.now c.args.view.now.db.area.now c.args.view.now.db.records.layout) m)
     (some_number _ c.parent.ensures c.in_ok-p.was)).0 in omega (arith, f, m))
 

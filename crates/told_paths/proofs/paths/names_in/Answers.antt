@@ -15,7 +15,16 @@ loop-k-preserved c =
     counted_next c.args.area.now c.args.n c.requires.2 c.loop-k.invariant c.loop-k-test.true c.word-k.ensures
 
 pub returns-then-k-eq0 : goal.returns-then-k-eq0
-returns-then-k-eq0 c = record { by_index = counted_keyword c.args.area.now c.args.n c.requires.2 c.loop-k.invariant c.if-k-eq0.true; upper_bound = omega (arith, c.loop-k.invariant.few) }
+returns-then-k-eq0 c =
+    record {
+      by_index = counted_keyword c.args.area.now c.args.n c.requires.2 c.loop-k.invariant c.if-k-eq0.true;
+      upper_bound = omega (arith, c.loop-k.invariant.few);
+    }
 
 pub returns : goal.returns
-returns c = record { by_index = counted_name c.args.area.now c.args.n c.requires.2 c.loop-k.invariant c.if-k-eq0.false (omega (arith, c.loop-k-test.false)) refl; upper_bound = omega (arith, c.loop-k.invariant.few, c.if-k-eq0.false) }
+returns c =
+    record {
+      by_index = counted_name c.args.area.now c.args.n c.requires.2 c.loop-k.invariant c.if-k-eq0.false
+          (omega (arith, c.loop-k-test.false)) refl;
+      upper_bound = omega (arith, c.loop-k.invariant.few, c.if-k-eq0.false);
+    }

@@ -4,7 +4,8 @@ use Rattle.answer.proofs.checked.Putting.{few_names, line_refused, line_accepted
 use Rattle.answer.proofs.checked.lines.line_on.Goals as goal
 
 pub invariant_of-records : goal.invariant_of-records
-invariant_of-records c = record { fits = few_words _ _ _ (reads_of c.args.words.now c.report_on-r.new.area c.args.c c.report_on-r.ensures.checked _ c.in-Ok.is) }
+invariant_of-records c =
+    record { fits = few_words _ _ _ (reads_of c.args.words.now c.report_on-r.new.area c.args.c c.report_on-r.ensures.checked _ c.in-Ok.is) }
 
 pub invariant_of-db : goal.invariant_of-db
 invariant_of-db c = record { reads = reads_of c.args.words.now c.report_on-r.new.area c.args.c c.report_on-r.ensures.checked _ c.in-Ok.is }

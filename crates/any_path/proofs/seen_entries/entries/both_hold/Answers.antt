@@ -15,7 +15,8 @@ returns-in_default c =
 pub holds_at-requires-then-holds_at : goal.holds_at-requires-then-holds_at
 holds_at-requires-then-holds_at c =
     let W = c.args.view.now.db.records.words.now in
-    declared_fits W c.args.view.now.db.area.now c.args.view.now.db.records.layout c.args.view.now.db.reads (scope_at c.args.view.now.db.records.words.now c.args.h) _
+    declared_fits W c.args.view.now.db.area.now c.args.view.now.db.records.layout c.args.view.now.db.reads
+    (scope_at c.args.view.now.db.records.words.now c.args.h) _
     (sym c.declaration_of.ensures ∙ ap (entry_of scope_at W) c.in-Some.is)
 
 pub returns-then-holds_at : goal.returns-then-holds_at

@@ -12,7 +12,8 @@ use Rattle.any_path.proofs.seen_entries.entries.declared_in.Goals as goal
 pub parent-requires : goal.parent-requires
 parent-requires c =
     let A = c.args.db.now.area.now in
-    let k = kind_yes Module _ c.eq.ensures (c.known_kind_of.ensures A) c.if-eq.true in subst (λ x. x < c.args.db.now.records.layout.modules) (sym (c.first_of.ensures A))
+    let k = kind_yes Module _ c.eq.ensures (c.known_kind_of.ensures A) c.if-eq.true in
+    subst (λ x. x < c.args.db.now.records.layout.modules) (sym (c.first_of.ensures A))
     (module_known c.args.db.now.records.words.now A c.args.db.now.records.layout c.args.db.now.reads c.args.d.0 c.requires k)
 
 pub returns-then-eq : goal.returns-then-eq

@@ -1,7 +1,7 @@
 use mathlib.Core.Path.{sym, ◌∙◌}
 use Rattle.snapshot.specs.Ids.{plus_one}
 use Rattle.module_tree.proofs.Climbs.{some_number, none_number}
-use Rattle.any_path.proofs.seen_entries.Laws.{step_root, step_inner}
+use Rattle.module_tree.proofs.Privately.{step_root, step_inner}
 use Rattle.accept.specs.Opened.{snap_in}
 use Rattle.any_path.proofs.seen_entries.privacy.block_step.Goals as goal
 

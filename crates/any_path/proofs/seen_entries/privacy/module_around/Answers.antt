@@ -31,11 +31,13 @@ loop-b-preserved c =
     let n = (snap_in c.args.db.now) in
     let ok = accepted_tree c.args.db.now.records.words.now n c.args.db.now.reads.same in
     let e = some_number _ c.block_step.ensures c.in-Some.is in (
-      g.invariant.0 ∙ around_on n ok g.t.0 _ (rw (length_modules c.args.db.now.records.words.now c.args.db.now.area.now c.args.db.now.records.layout) g.invariant.1)
+      g.invariant.0 ∙ around_on n ok g.t.0 _
+          (rw (length_modules c.args.db.now.records.words.now c.args.db.now.area.now c.args.db.now.records.layout) g.invariant.1)
           e,
       omega (
         arith,
-        step_falls n ok g.t.0 _ (rw (length_modules c.args.db.now.records.words.now c.args.db.now.area.now c.args.db.now.records.layout) g.invariant.1)
+        step_falls n ok g.t.0 _
+            (rw (length_modules c.args.db.now.records.words.now c.args.db.now.area.now c.args.db.now.records.layout) g.invariant.1)
             e,
         g.invariant.1,
       ),

@@ -10,7 +10,12 @@ pub repeated_with-old-requires : goal.repeated_with-old-requires
 repeated_with-old-requires c = let e = c.scope_base.ensures in
     let p = c.requires.place in
     let f = c.requires.fits in
-    let q = c.requires.short in record { chained = scope_chain c.args.words.now c.args.area.now c.args.l c.requires.index e; key_value = (c.record_key-key.ensures, omega arith, omega arith, omega arith, omega arith); count_in_bounds = (omega arith, f, omega arith, omega arith) }
+    let q = c.requires.short in
+    record {
+      chained = scope_chain c.args.words.now c.args.area.now c.args.l c.requires.index e;
+      key_value = (c.record_key-key.ensures, omega arith, omega arith, omega arith, omega arith);
+      count_in_bounds = (omega arith, f, omega arith, omega arith);
+    }
 
 pub returns-in_err-judge : goal.returns-in_err-judge
 returns-in_err-judge c ms st =

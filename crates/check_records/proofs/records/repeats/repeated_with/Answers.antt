@@ -37,8 +37,12 @@ overflow_add-base c =
 
 pub same-requires : goal.same-requires
 same-requires c =
-    let b = c.requires.count_in_bounds in
-    (row_met c.args.base c.args.size c.loop-k.invariant.within c.loop-k-test.true b.0 b.3, c.requires.key_value.4, some c.args.fields c.requires.key_value.3, c.payload-last.ensures)
+    let b = c.requires.count_in_bounds in (
+      row_met c.args.base c.args.size c.loop-k.invariant.within c.loop-k-test.true b.0 b.3,
+      c.requires.key_value.4,
+      some c.args.fields c.requires.key_value.3,
+      c.payload-last.ensures,
+    )
 
 pub returns-then-same : goal.returns-then-same
 returns-then-same c =
@@ -51,7 +55,13 @@ pub overflow_add-links : goal.overflow_add-links
 overflow_add-links c =
     let b = c.requires.count_in_bounds in
     let l = c.loop-k in
-    omega (arith, row_met c.args.base c.args.size l.invariant.within c.loop-k-test.true b.0 b.3, small_by c.args.size (l.k - 1) b.3, b.2, c.requires.key_value.2)
+    omega (
+      arith,
+      row_met c.args.base c.args.size l.invariant.within c.loop-k-test.true b.0 b.3,
+      small_by c.args.size (l.k - 1) b.3,
+      b.2,
+      c.requires.key_value.2,
+    )
 
 pub loop-k-smaller : goal.loop-k-smaller
 loop-k-smaller c =

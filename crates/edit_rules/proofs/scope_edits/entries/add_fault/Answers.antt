@@ -7,7 +7,8 @@ use Rattle.edit_rules.proofs.scope_edits.entries.add_fault.Goals as goal
 
 pub returns-in_err-entry_fault : goal.returns-in_err-entry_fault
 returns-in_err-entry_fault c A r =
-    rw (err_is _ _ c.from_residual.ensures.1) (add_faulted c.args.words.now A c.args.l c.args.entry.now c.args.slice r (number_entry _ _ _ (refusal_some _))
+    rw (err_is _ _ c.from_residual.ensures.1)
+    (add_faulted c.args.words.now A c.args.l c.args.entry.now c.args.slice r (number_entry _ _ _ (refusal_some _))
     (c.in_err-entry_fault.ensures A) c.entry_place.ensures
     c.word-owner.ensures c.word-ns.ensures c.word-name.ensures)
 

@@ -12,7 +12,8 @@ pub returns-then-is_entry : goal.returns-then-is_entry
 returns-then-is_entry c =
     let a = c.args in
     let W = a.words.now in
-    walk_stop (is_entry (is_named a.key.owner a.key.ns a.key.name) W) W _ c.loop-at.at c.loop-at.invariant (sym c.is_entry.ensures ∙ c.if-is_entry.true)
+    walk_stop (is_entry (is_named a.key.owner a.key.ns a.key.name) W) W _ c.loop-at.at c.loop-at.invariant
+    (sym c.is_entry.ensures ∙ c.if-is_entry.true)
 
 pub overflow_add-at-in-loop-at : goal.overflow_add-at-in-loop-at
 overflow_add-at-in-loop-at c =

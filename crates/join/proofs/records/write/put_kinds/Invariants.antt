@@ -7,4 +7,7 @@ use Rattle.join.proofs.records.write.put_kinds.Given as goal
 
 abbrev pub invariant-loop-k : goal.invariant-loop-k
 invariant-loop-k l =
-    (l.k ≤ kinds) × Going l.write (words_to l.area l.parts.first.layout l.parts.second.layout l.parts.first.words.now l.parts.second.words.now) 0 l.initial.target (joined (rows (kind_to l.area l.parts.first.layout l.parts.second.layout l.parts.first.words.now l.parts.second.words.now) l.k (kinds - l.k))) l.to l.target
+    (l.k ≤ kinds) × Going l.write (words_to l.area l.parts.first.layout l.parts.second.layout l.parts.first.words.now l.parts.second.words.now) 0
+    l.initial.target (joined
+    (rows (kind_to l.area l.parts.first.layout l.parts.second.layout l.parts.first.words.now l.parts.second.words.now) l.k (kinds - l.k))) l.to
+    l.target

@@ -12,7 +12,8 @@ pub first_where-requires : goal.first_where-requires
 first_where-requires c = record {
   takes =
       λ i b.
-      let f = spanned_fits c.args.view.now.db.records.words.now c.args.view.now.db.area.now c.args.view.now.db.records.layout c.args.view.now.db.reads c.scopes.ensures b in
+      let f = spanned_fits c.args.view.now.db.records.words.now c.args.view.now.db.area.now c.args.view.now.db.records.layout c.args.view.now.db.reads
+      c.scopes.ensures b in
       grind serving;
 }
 

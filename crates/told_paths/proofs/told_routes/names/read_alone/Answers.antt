@@ -16,7 +16,8 @@ unfolding record_read
 returns-in-Scope c =
     let S = snap_in c.args.view.now.db in
     let read = c.in_ok-h.was ∙ ap Some c.in-Scope.is in
-    answers_as (sym (ap (record_read S c.args.view.now.db.records.words.now) read) ∙ c.read_plain.ensures) (ap Some (c.by_entry-its.ensures c.args.view.now.db.area.now))
+    answers_as (sym (ap (record_read S c.args.view.now.db.records.words.now) read) ∙ c.read_plain.ensures)
+    (ap Some (c.by_entry-its.ensures c.args.view.now.db.area.now))
 
 pub returns-in-Extern : goal.returns-in-Extern
 unfolding record_read

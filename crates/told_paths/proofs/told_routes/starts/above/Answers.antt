@@ -19,7 +19,9 @@ returns-in_err-p c =
     (none_number _ c.parent.ensures c.in_err-p.was) ∙ sym c.loop-step.invariant.0
 
 pub module_around-at-requires : goal.module_around-at-requires
-module_around-at-requires c = parent_below c.args.db.now.records.words.now c.args.db.now.area.now c.args.db.now.records.layout c.args.db.now.reads c.loop-step.at.0 _ c.loop-step.invariant.1
+module_around-at-requires c =
+    parent_below c.args.db.now.records.words.now c.args.db.now.area.now c.args.db.now.records.layout c.args.db.now.reads c.loop-step.at.0 _
+    c.loop-step.invariant.1
     (some_number _ c.parent.ensures c.in_ok-p.was)
 
 pub loop-step-preserved : goal.loop-step-preserved

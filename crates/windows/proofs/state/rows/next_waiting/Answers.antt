@@ -19,8 +19,12 @@ pub loop-turn-preserved : goal.loop-turn-preserved
 loop-turn-preserved c =
     let l = c.loop-turn in
     let e : 8 - l._turn - 1 ≡ 8 - (l._turn + 1) = omega arith in
-    let f = first_next _ l.window.0 _ c.waits.ensures (8 - l._turn) (omega arith) c.if-waits.false in
-    (omega arith, omega arith, l.invariant.2 ∙ f ∙ ap (λ w. first_from (words_of c.args.windows) w (8 - l._turn - 1)) (sym c.next-window.ensures) ∙ ap (first_from (words_of c.args.windows) _) e)
+    let f = first_next _ l.window.0 _ c.waits.ensures (8 - l._turn) (omega arith) c.if-waits.false in (
+      omega arith,
+      omega arith,
+      l.invariant.2 ∙ f ∙ ap (λ w. first_from (words_of c.args.windows) w (8 - l._turn - 1)) (sym c.next-window.ensures)
+          ∙ ap (first_from (words_of c.args.windows) _) e,
+    )
 
 pub returns : goal.returns
 returns c =

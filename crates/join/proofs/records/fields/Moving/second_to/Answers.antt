@@ -12,4 +12,5 @@ returns-then-eq c =
 
 pub returns : goal.returns
 returns c =
-    second_none (numbers_of c.args.self.now.area.now c.args.self.now.first) c.args.k c.args.n (kind_no Variant _ c.eq.ensures c.of.ensures c.if-eq.false)
+    second_none (numbers_of c.args.self.now.area.now c.args.self.now.first) c.args.k c.args.n
+    (kind_no Variant _ c.eq.ensures c.of.ensures c.if-eq.false)
