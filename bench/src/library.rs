@@ -1,5 +1,5 @@
 //! The static library: by way of the Rust bindings, on words that were checked before, and by its functions that check in every call.
-use kelumavor::{DefinitionId, ModuleId, Namespace, Outcome, Prefix, Report, Snapshot, WorkArea};
+use kelumavor::{DefinitionId, ModuleId, Namespace, Options, Outcome, Prefix, Report, Snapshot, WorkArea};
 
 use crate::questions::{Answer, Answers, Question};
 
@@ -30,7 +30,21 @@ fn asked(question: &Question) -> kelumavor::Question {
     let prefix = [Prefix::BySelf, Prefix::Plain, Prefix::ByCrate][question.prefix as usize];
     kelumavor::Question::new(Namespace::Types, DefinitionId(question.definition), ModuleId(question.from))
         .prefix(prefix)
+        .options(options(question.options))
         .fuel(Question::MAX_FUEL)
+}
+
+fn options(bits: u32) -> Options {
+    let has = |bit| bits & bit != 0;
+    Options {
+        prefer_no_std: has(1),
+        prefer_prelude: has(2),
+        prefer_absolute: has(4),
+        allow_unstable: has(8),
+        ignore_local_imports: has(16),
+        old_names_last: has(32),
+        read_back: has(64),
+    }
 }
 
 fn answer(report: &Report) -> Answer {
@@ -72,7 +86,7 @@ impl Checking {
     /// Puts questions in one call.
     pub fn put_all(&mut self, questions: &[Question]) -> Vec<Answer> {
         let words = |question: &Question| -> [u32; QUESTION] {
-            [0, question.definition, question.from, question.prefix, 0, Question::MAX_FUEL, 15]
+            [0, question.definition, question.from, question.prefix, question.options, Question::MAX_FUEL, 15]
         };
         let asked: Vec<u32> = questions.iter().flat_map(words).collect();
         let mut reports = vec![0; REPORT * questions.len()];

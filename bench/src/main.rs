@@ -2,8 +2,9 @@
 //!
 //! `bench` prints tables, `bench files` that of several questions at once, `bench families` that of inputs made to be slow, `bench any` that of
 //! any path, `bench lists` that of import lists (feature `lists`). For a profiler,
-//! `bench check SHAPE COUNT` checks one snapshot so many times, `bench ask SHAPE COUNT` puts so many questions to the library on a checked snapshot, and
-//! `bench recheck SHAPE COUNT` to its function that checks in every call; all print nothing.
+//! `bench check SHAPE COUNT` checks one snapshot so many times, `bench ask SHAPE COUNT` puts so many questions to the library on a checked
+//! snapshot, `bench recheck SHAPE COUNT` to its function that checks in every call, and `bench family FAMILY SIZE COUNT` puts the question of a
+//! family so many times; all print nothing. `bench input` writes an input of the path printer.
 mod any;
 mod families;
 mod library;
@@ -21,9 +22,10 @@ use kelumavor::{Snapshot, WorkArea};
 use shapes::Shape;
 
 const USAGE: &str = "bench [files | families | any | lists | check SHAPE COUNT | ask SHAPE COUNT | recheck SHAPE COUNT | family FAMILY SIZE COUNT
-    | input SHAPE COUNT]
+    | input SHAPE COUNT | input FAMILY SIZE]
   SHAPE   small, workspace, chain, dependencies, names or scope
-  FAMILY  unreached, globs, layers or clique
+  FAMILY  unreached, globs, layers or clique, whose search is bounded;
+          ignored, shadowed, repeats, detour, prelude or preferred, whose search grows with the size
   lists   needs the feature `lists`";
 
 fn main() {
@@ -54,8 +56,10 @@ fn main() {
             questions::ask(&shape, number(count), &mut library::Checking::new(&shape.words));
         }
         ["family", name, size, count] => families::ask(name, number(size), number(count)).unwrap_or_else(|| usage()),
-        ["input", shape, count] => {
-            let input = questions::input(shape, number(count)).unwrap_or_else(|| usage());
+        ["input", name, count] => {
+            let count = number(count);
+            let input = questions::input(name, count).or_else(|| families::input(name, count));
+            let input = input.unwrap_or_else(|| usage());
             std::io::stdout().write_all(&input).expect("a place to write to");
         }
         _ => usage(),

@@ -20,7 +20,7 @@ impl Answers for Original {
             ns: 0,
             from: question.from as usize,
             prefix: question.prefix as usize,
-            options: 0,
+            options: question.options as usize,
             fuel: Question::MAX_FUEL as usize,
             limit: 15,
         });

@@ -9,10 +9,25 @@ pub struct Question {
     pub from: u32,
     /// 0 by `self`, 1 plain, 2 by `crate`.
     pub prefix: u32,
+    /// As the bits of the format.
+    pub options: u32,
 }
+
+/// Words of a question in an input.
+const WORDS: usize = 7;
 
 impl Question {
     pub const MAX_FUEL: u32 = 10_000;
+
+    /// Those of an input of the path printer.
+    pub fn words(self) -> [u32; WORDS] {
+        [12 << 28 | self.definition, 0, self.from, self.prefix, self.options, Question::MAX_FUEL, 15]
+    }
+}
+
+/// The bytes of words.
+pub fn bytes(words: &[u32]) -> Vec<u8> {
+    words.iter().flat_map(|word| word.to_le_bytes()).collect()
 }
 
 #[derive(Clone, Copy, Debug, PartialEq, Eq)]
@@ -72,19 +87,15 @@ pub fn print_all() {
     println!();
 }
 
-/// Words of a question.
-const WORDS: usize = 7;
-
 /// An input of the path printer with so many questions; a workspace fills it.
 pub fn input(shape: &str, count: usize) -> Option<Vec<u8>> {
     let shape = shapes::beside(shape, WORDS * count)?;
     let every = (questions(&shape).count() / count.max(1)).max(1);
     let mut words = shape.words.clone();
     for question in questions(&shape).step_by(every).take(count) {
-        let asked = [12 << 28 | question.definition, 0, question.from, question.prefix, 0, Question::MAX_FUEL, 15];
-        words.extend::<[u32; WORDS]>(asked);
+        words.extend(question.words());
     }
-    Some(words.iter().flat_map(|word| word.to_le_bytes()).collect())
+    Some(bytes(&words))
 }
 
 /// Questions of a rewritten file.
@@ -129,7 +140,7 @@ fn questions(shape: &Shape) -> impl Iterator<Item = Question> + Clone {
     let modules = snapshot.counts().modules as u32;
     (0..definitions).step_by((definitions as usize / 50) | 1).flat_map(move |definition| {
         let from = [definition % modules, modules - 1];
-        from.into_iter().flat_map(move |from| [1, 2].map(|prefix| Question { definition, from, prefix }))
+        from.into_iter().flat_map(move |from| [1, 2].map(|prefix| Question { definition, from, prefix, options: 0 }))
     })
 }
 
