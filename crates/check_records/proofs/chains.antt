@@ -1,2 +1,4 @@
+-- Rows that are computed.
+pub mod Computed
 -- Laws that belong to no one function.
 pub mod Laws
