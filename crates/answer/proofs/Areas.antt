@@ -1,17 +1,19 @@
 -- Laws of a work area that is cleared, and of an entry point.
-use Prim.Native.Nat.{ℕ, ◌+◌, ◌≤◌, ◌<◌}
+use Prim.Native.Nat.{ℕ, ◌≤◌, ◌<◌}
 use mathlib.Core.Path.{◌≡◌, sym, ◌∙◌, ap}
 use mathlib.Core.List.{List, ◌++◌}
 use native.Mathlib.Omega.{arith}
-use borrow.Author.Tests.{lt-ltb, le-ltb}
+use borrow.Author.Tests.{lt-ltb, le-ltb, ltb-true, ltb-false}
+use lib.Dec.{ltb}
 use lib.Seq.{length-take-le}
 use Rattle.std.specs.Array.{IsFirstChunk}
 use lib.ListN.{length, drop}
 use Rattle.snapshot.specs.Limits.{area_limit}
 use Rattle.snapshot.specs.Refusals.{area_refusal}
+use Rattle.accept.proofs.Accepted.{by_test}
 use Rattle.find_path_spec.specs.declared.Question.{Question}
 use Rattle.find_path_spec.specs.declared.Report.{Report}
-use Rattle.find_path_spec.specs.Report.{call_fault, refused, report_of}
+use Rattle.find_path_spec.specs.Report.{refused, report_of}
 use Rattle.answer.proofs.checked.Laws.{small, report_fault, same_report}
 use Rattle.answer.specs.Answers.{zeros, area_after, Answers}
 
@@ -45,7 +47,13 @@ module _ (W A : List ℕ) (q : Question) (r : Report) where
         area = area_large A B h z;
       }
 
-  pub answers_fault : (B : List ℕ) → area_limit ≤ length A → B ≡ zeros area_limit → (n : ℕ) → n ≡ call_fault (length A) q.query q.fuel
-      → (n ≡ 0 → ⊥)
-      → r ≡ refused n → Answers W A q (B ++ drop area_limit A) r
-  answers_fault B h z n e k p = record { report = report_fault W (length A) q r n e k p; area = area_large A B h z }
+  pub answers_by : (B : List ℕ) → B ≡ area_after A → (length A < area_limit → r ≡ refused area_refusal)
+      → (area_limit ≤ length A → r ≡ report_of W area_limit q) → Answers W A q B r
+  answers_by B e f g =
+      record {
+        report =
+            by_test (ltb (length A) area_limit)
+            (λ t. let h = ltb-true _ _ t in (answers_small h (f h)).report)
+            (λ t. let h = ltb-false _ _ t in g h ∙ same_report W area_limit (length A) q (omega arith) h);
+        area = e;
+      }

@@ -1,5 +1,4 @@
 //! A file's worth of questions, with one snapshot.
-//! A file's worth of questions.
 
 ghost use Rattle.snapshot.specs.Refusals.{fault_number};
 ghost use Rattle.answer.specs.batch.Batch.{Batch};
@@ -7,7 +6,8 @@ ghost use Rattle.answer.specs.batch.Batch.{Batch};
 pub mod each;
 
 use crate::area::clear;
-use crate::batch::each::answer_each;
+use crate::batch::each::report_each;
+use accept::check::check;
 use reports::questions::fits::fits;
 use snapshot::refusal::Refusal;
 
@@ -31,6 +31,8 @@ pub fn find_paths(
         clear(front);
         return Err(Refusal::Batch);
     }
-    answer_each(words, front, questions, reports);
+    let c = check(words, front);
+    report_each(words, front, c, questions, reports);
+    clear(front);
     Ok(())
 }

@@ -2,10 +2,11 @@
 //! Uses the check, the search, the reports and the lines.
 #![tactic(auto)]
 
-ghost use Rattle.std.specs.Prelude.{◌≡◌, length};
+ghost use Rattle.std.specs.Prelude.{◌≡◌};
 ghost use Rattle.snapshot.specs.Limits.{area_limit};
 ghost use Rattle.find_path_spec.specs.Report.{report_of};
-ghost use Rattle.answer.specs.Answers.{zeros, Answers};
+ghost use Rattle.answer.specs.Answers.{Answers};
+ghost use Rattle.answer.specs.checked.Questioned.{told};
 
 pub mod any_answer;
 pub mod area;
@@ -16,26 +17,23 @@ pub mod counts;
 pub mod lines;
 pub mod twice;
 
-use crate::area::clear;
+use crate::area::in_front;
+use crate::checked::answer_on;
 use crate::checked::faults::call_fault;
-use crate::checked::report_on;
 use accept::check::check;
 use find_path_spec::{Question, Report};
 use reports::refused;
 use snapshot::ids::Area;
+use snapshot::records::Records;
 use snapshot::refusal::Refusal;
 
-// The report, in a work area that serves and is cleared.
-// As in `any_answer` and `reach_answer`, with another step between check and clear. Shared, that step would be a closure that writes to the area,
-// under a clause that says what it leaves there: longer than these three lines.
-fn find_path_within(words: &[u32], area: &mut Area, question: Question) -> Report
-    ensures value { result ≡ report_of words.now area_limit question }
-    ensures area_after { area.new ≡ zeros area_limit }
+// The report, or why the question is refused: 21, 22 and 46 before the words are checked, 23 and 24 after it.
+fn answered(words: &[u32], area: &mut Area, question: Question) -> Result<Report, Refusal>
+    ensures { told result ≡ report_of words.now area_limit question }
 {
-    let c = check(words, area);
-    let r = report_on(words, area, c, question);
-    clear(area);
-    r
+    call_fault(question.query, question.fuel)?;
+    let layout = check(words, area)?;
+    answer_on(&Records { words, layout }, area, question)
 }
 
 /// The report of a question on the words of a snapshot. A work area of 16,384 words or more is cleared in its first 16,384 words
@@ -43,13 +41,6 @@ fn find_path_within(words: &[u32], area: &mut Area, question: Question) -> Repor
 pub fn find_path(words: &[u32], area: &mut [u32], question: Question) -> Report
     ensures { Answers words.now area.old question area.new result }
 {
-    let size = area.len();
-    let Some(front) = area.first_chunk_mut() else {
-        return refused(Refusal::Area.number());
-    };
-    if let Err(why) = call_fault(size, question.query, question.fuel) {
-        clear(front);
-        return refused(why.number());
-    }
-    find_path_within(words, front, question)
+    let r = in_front(area, |front| answered(words, front, question));
+    r.unwrap_or_else(|why| refused(why.number()))
 }

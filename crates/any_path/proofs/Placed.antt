@@ -70,7 +70,8 @@ module _ (s : Snapshot) (from modules : ℕ) (A : List ℕ) (i : ℕ) (there : I
     its_path : path_at A i ≡ path_from (path_at A) k x
     its_path = path_of ∙ ap (λ (j : ℕ). path_from (path_at A) j (name_at A i)) (sym link) ∙ ap (path_from (path_at A) k) (sym name)
 
-    its_place : {p : ℕ} (q : Path) → path_from (path_at A) k x ≡ q → p ≡ place_in (reads s from types q) → p ≡ place_in (reads s from types (path_at A i))
+    its_place : {p : ℕ} (q : Path) → path_from (path_at A) k x ≡ q → p ≡ place_in (reads s from types q)
+        → p ≡ place_in (reads s from types (path_at A i))
     its_place q e h = h ∙ ap (λ (v : Path). place_in (reads s from types v)) (sym (its_path ∙ e))
 
     pub place_keyword : k ≡ 0 → 0 ≡ place_in (reads s from types (path_at A i))

@@ -54,12 +54,12 @@ named_append : (n : ℕ) (xs ys : List Named) → named n (xs ++ ys) ≡ or_firs
 unfolding named
 named_append n xs ys = first_of_append (λ (x : Named). eqb x.name n) xs ys
 
-map_or : {A B : Type 0} (f : A → B) (o p : Option A) → or_first (option_map f o) (option_map f p) ≡ option_map f (or_first o p)
+pub map_or : {A B : Type 0} (f : A → B) (o p : Option A) → or_first (option_map f o) (option_map f p) ≡ option_map f (or_first o p)
 unfolding or_first
 map_or f None p = refl
 map_or f (Some x) p = refl
 
-first_or : {A B : Type 0} (f : A → Option B) (x : A) (xs : List A) → first_some f (x ∷ xs) ≡ or_first (f x) (first_some f xs)
+pub first_or : {A B : Type 0} (f : A → Option B) (x : A) (xs : List A) → first_some f (x ∷ xs) ≡ or_first (f x) (first_some f xs)
 unfolding first_some or_first
 first_or f x xs = by_option (f x) (λ e. rw (first_some, e)) (λ y e. rw (first_some, e))
 
@@ -96,7 +96,8 @@ module _ (s : Snapshot) (from ns n : ℕ) where
       let b : List Named = externs_in s from ns in
       let c : List Named = prelude_entries s from ns (prelude_of s (map_no s from)) in
       named_append n a (b ++ c)
-      ∙ ap₂ or_first (over_named (scopes_from s from)) (named_append n b c ∙ ap₂ or_first externs_read (prelude_named_lem (prelude_of s (map_no s from))))
+      ∙ ap₂ or_first (over_named (scopes_from s from))
+      (named_append n b c ∙ ap₂ or_first externs_read (prelude_named_lem (prelude_of s (map_no s from))))
 
   pub plain_scope : (e : Scope) → scopes_named s from ns n ≡ Some e → Some (as_named s e) ≡ reads s from ns (plain n)
   unfolding or_first
@@ -296,7 +297,8 @@ module _ (W : List ℕ) (l : Layout) (k : ℕ) {b h : ℕ} where
 
     pub lead_here : (u s : Snapshot) (from m : ℕ) → u ≡ s
         → leads_on u from m (scope_at W h)
-        ≡ (is_seen_in s from types m (scope_at W (scope_base l + scope_size * k)) && is_module (as_named s (scope_at W (scope_base l + scope_size * k))).item)
+        ≡ (is_seen_in s from types m (scope_at W (scope_base l + scope_size * k))
+        && is_module (as_named s (scope_at W (scope_base l + scope_size * k))).item)
     lead_here u s from m e =
         ap₂ (λ (v : Snapshot) (x : Scope). leads_on v from m x) e scope_here ∙ lead_test s from m (scope_at W (scope_base l + scope_size * k))
 
@@ -309,7 +311,8 @@ module _ (W : List ℕ) (l : Layout) (k : ℕ) {b h : ℕ} where
 
     pub owned_here : {c d : ℕ} → c ≡ d
         → eqb (extern_at W h).owner c
-        ≡ (eqb (extern_at W (extern_base l + extern_size * k)).owner d && is_module (extern_named (extern_at W (extern_base l + extern_size * k))).item)
+        ≡ (eqb (extern_at W (extern_base l + extern_size * k)).owner d
+        && is_module (extern_named (extern_at W (extern_base l + extern_size * k))).item)
     owned_here {c} {d} e =
         ap₂ (λ (x : Extern) (z : ℕ). eqb x.owner z) extern_there e
         ∙ extern_test (extern_at W (extern_base l + extern_size * k)) (eqb (extern_at W (extern_base l + extern_size * k)).owner d)
@@ -423,7 +426,8 @@ module _ (W A : List ℕ) (l : Layout) (r : Reads W A l) (from n : ℕ) where
       let y : List Path = names_alone (externs_in s from types) in
       let z : Snapshot → List Path = λ (u : Snapshot). names_alone (prelude_entries u from types (prelude_of u (map_no u from))) in
       let split : names_alone (firsts s from types) ≡ x ++ (y ++ z s) =
-      alone_append (entries_over s from types (scopes_from s from)) (externs_in s from types ++ prelude_entries s from types (prelude_of s (map_no s from)))
+      alone_append (entries_over s from types (scopes_from s from))
+      (externs_in s from types ++ prelude_entries s from types (prelude_of s (map_no s from)))
       ∙ ap (λ (ps : List Path). x ++ ps) (alone_append (externs_in s from types) (prelude_entries s from types (prelude_of s (map_no s from)))) in
       let gs : run_at C p ≡ added s from (run_at B c) y =
       g.same ∙ ap (λ (u : Snapshot). added u from (run_at B c) (names_alone (externs_in u from types))) (stays_snap W A B l r f.stays) in

@@ -122,7 +122,8 @@ module _ (W A : List ℕ) (l : Layout) (r : Reads W A l) (from i n : ℕ) where
   expanding_start run =
       record { grown = unchanged l.modules A n run; rest = rows_whole (λ (xs : List Scope). added s from (run_at A n) (by xs)) each l.scopes }
 
-  pub expanding_next : {B C : List ℕ} {c q k b h : ℕ} → i < n → Meant (snap_of W A l) from (way_at A i) → Expanding W A l from i n B c k → k < l.scopes
+  pub expanding_next : {B C : List ℕ} {c q k b h : ℕ} → i < n → Meant (snap_of W A l) from (way_at A i) → Expanding W A l from i n B c k
+      → k < l.scopes
       → b ≡ scope_base l → h ≡ b + scope_size * k
       → Grown l.modules B c C q (with_entry (snap_of W B l) from (run_at B c) (way_at B i) (scope_at W h))
       → Expanding W A l from i n C q (k + 1)

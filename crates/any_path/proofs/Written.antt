@@ -80,7 +80,8 @@ module _ (A : List ℕ) (n t k x p : ℕ) where
       unfolding path_at path_to
       new_path =
           ap₂ (path_from (path_to n written)) its_link its_name
-          ∙ from_same (path_to n written) (path_at A) k x (λ j e. same_path n (suc j) j (omega (arith, link, e)) (omega arith) (omega (arith, link, e)))
+          ∙ from_same (path_to n written) (path_at A) k x
+          (λ j e. same_path n (suc j) j (omega (arith, link, e)) (omega arith) (omega (arith, link, e)))
 
       old_way : (i : ℕ) → i < n → way_at written i ≡ way_at A i
       unfolding path_at

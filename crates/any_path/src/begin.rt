@@ -19,7 +19,8 @@ use snapshot::records::Records;
 // The modules that `super`, one time and more, means.
 // `loop`: it climbs from parent to parent, and ends where there is none.
 fn offer_supers(records: &Records, area: &mut [u32], from: ModuleId, n: usize) -> usize
-    requires { Reads records.now.words.now area.old records.now.layout × (from.0 < records.now.layout.modules) × Run records.now.layout.modules area.old n }
+    requires { Reads records.now.words.now area.old records.now.layout × (from.0 < records.now.layout.modules)
+        × Run records.now.layout.modules area.old n }
     ensures { Grown records.now.layout.modules area.old n area.new result
         (added (snap_by records.now area.old) from.0 (run_at area.old n)
         (map keyword (rows supers 1 (length (snap_by records.now area.old).modules)))) }
@@ -53,7 +54,8 @@ fn offer_supers(records: &Records, area: &mut [u32], from: ModuleId, n: usize) -
 
 // The modules that `self`, `crate` and `super` mean.
 pub(crate) fn begin(records: &Records, area: &mut [u32], from: ModuleId) -> usize
-    requires { Reads records.now.words.now area.old records.now.layout × (from.0 < records.now.layout.modules) × (row_at module_limit ≤ length area.old) }
+    requires { Reads records.now.words.now area.old records.now.layout × (from.0 < records.now.layout.modules)
+        × (row_at module_limit ≤ length area.old) }
     ensures { Grown records.now.layout.modules area.old 0 area.new result
         (begun false (snap_by records.now area.old) from.0) }
 {

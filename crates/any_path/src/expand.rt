@@ -43,7 +43,8 @@ fn offer_entry(
     n: usize,
     h: usize,
 ) -> usize
-    requires { Reads records.now.words.now area.old records.now.layout × (from.0 < records.now.layout.modules) × ScopeFits (counts_in records.now.layout) (scope_at records.now.words.now h)
+    requires { Reads records.now.words.now area.old records.now.layout × (from.0 < records.now.layout.modules)
+        × ScopeFits (counts_in records.now.layout) (scope_at records.now.words.now h)
         × Run records.now.layout.modules area.old n × (i < n) }
     ensures { Grown records.now.layout.modules area.old n area.new result
         (with_entry (snap_by records.now area.old) from.0 (run_at area.old n)
@@ -78,7 +79,8 @@ pub(crate) fn expand(
     i: usize,
     n: usize,
 ) -> usize
-    requires { Reads records.now.words.now area.old records.now.layout × (from.0 < records.now.layout.modules) × Run records.now.layout.modules area.old n × (i < n)
+    requires { Reads records.now.words.now area.old records.now.layout × (from.0 < records.now.layout.modules)
+        × Run records.now.layout.modules area.old n × (i < n)
         × Meant (snap_by records.now area.old) from.0 (way_at area.old i) }
     ensures { Grown records.now.layout.modules area.old n area.new result
         (added (snap_by records.now area.old) from.0 (run_at area.old n)

@@ -28,7 +28,8 @@ use snapshot::records::Records;
 
 // The module that a name alone means.
 fn offer_plain(records: &Records, area: &mut [u32], from: ModuleId, n: usize, name: Name) -> usize
-    requires { Reads records.now.words.now area.old records.now.layout × (from.0 < records.now.layout.modules) × Run records.now.layout.modules area.old n × (name.0 < records.now.layout.names) }
+    requires { Reads records.now.words.now area.old records.now.layout × (from.0 < records.now.layout.modules)
+        × Run records.now.layout.modules area.old n × (name.0 < records.now.layout.names) }
     ensures { Grown records.now.layout.modules area.old n area.new result
         (added (snap_by records.now area.old) from.0 (run_at area.old n) (plain name.0 ∷ [])) }
 {
@@ -59,7 +60,8 @@ fn offer_lead(
     n: usize,
     h: usize,
 ) -> usize
-    requires { Reads records.now.words.now area.old records.now.layout × (from.0 < records.now.layout.modules) × ScopeFits (counts_in records.now.layout) (scope_at records.now.words.now h)
+    requires { Reads records.now.words.now area.old records.now.layout × (from.0 < records.now.layout.modules)
+        × ScopeFits (counts_in records.now.layout) (scope_at records.now.words.now h)
         × Run records.now.layout.modules area.old n }
     ensures { Grown records.now.layout.modules area.old n area.new result
         (name_if (snap_by records.now area.old) from.0 (run_at area.old n)
@@ -80,7 +82,8 @@ fn offer_lead(
 // The names of a module's entries that lead on.
 // The step takes a module where that of `expand` takes a row, and another fold is proved of it; so each keeps its loop.
 fn offer_scope(records: &Records, area: &mut [u32], from: ModuleId, m: ModuleId, n: usize) -> usize
-    requires { Reads records.now.words.now area.old records.now.layout × (from.0 < records.now.layout.modules) × Run records.now.layout.modules area.old n }
+    requires { Reads records.now.words.now area.old records.now.layout × (from.0 < records.now.layout.modules)
+        × Run records.now.layout.modules area.old n }
     ensures { Grown records.now.layout.modules area.old n area.new result
         (added (snap_by records.now area.old) from.0 (run_at area.old n)
         (names_alone (entries_in (snap_by records.now area.old) from.0 types m.0))) }
@@ -98,7 +101,8 @@ fn offer_scope(records: &Records, area: &mut [u32], from: ModuleId, m: ModuleId,
 // Those of the viewer's scope and of the scopes around its blocks.
 // `loop`: it climbs out of blocks. `nearest` stops at the first that it finds, and here each scope is offered.
 fn offer_scopes(records: &Records, area: &mut [u32], from: ModuleId, n: usize) -> usize
-    requires { Reads records.now.words.now area.old records.now.layout × (from.0 < records.now.layout.modules) × Run records.now.layout.modules area.old n }
+    requires { Reads records.now.words.now area.old records.now.layout × (from.0 < records.now.layout.modules)
+        × Run records.now.layout.modules area.old n }
     ensures { Grown records.now.layout.modules area.old n area.new result
         (added (snap_by records.now area.old) from.0 (run_at area.old n)
         (names_alone (entries_over (snap_by records.now area.old) from.0 types
@@ -128,7 +132,8 @@ fn offer_owned(
     n: usize,
     h: usize,
 ) -> usize
-    requires { Reads records.now.words.now area.old records.now.layout × (from.0 < records.now.layout.modules) × ExternFits (counts_in records.now.layout) (extern_at records.now.words.now h)
+    requires { Reads records.now.words.now area.old records.now.layout × (from.0 < records.now.layout.modules)
+        × ExternFits (counts_in records.now.layout) (extern_at records.now.words.now h)
         × Run records.now.layout.modules area.old n }
     ensures { Grown records.now.layout.modules area.old n area.new result
         (name_if (snap_by records.now area.old) from.0 (run_at area.old n)
@@ -142,7 +147,8 @@ fn offer_owned(
 
 // The names of the externs of the viewer's crate.
 fn offer_externs(records: &Records, area: &mut [u32], from: ModuleId, n: usize) -> usize
-    requires { Reads records.now.words.now area.old records.now.layout × (from.0 < records.now.layout.modules) × Run records.now.layout.modules area.old n }
+    requires { Reads records.now.words.now area.old records.now.layout × (from.0 < records.now.layout.modules)
+        × Run records.now.layout.modules area.old n }
     ensures { Grown records.now.layout.modules area.old n area.new result
         (added (snap_by records.now area.old) from.0 (run_at area.old n)
         (names_alone (externs_in (snap_by records.now area.old) from.0 types))) }
@@ -164,7 +170,8 @@ fn offer_externs(records: &Records, area: &mut [u32], from: ModuleId, n: usize) 
 
 // Those of the prelude of the viewer's map.
 fn offer_prelude(records: &Records, area: &mut [u32], from: ModuleId, n: usize) -> usize
-    requires { Reads records.now.words.now area.old records.now.layout × (from.0 < records.now.layout.modules) × Run records.now.layout.modules area.old n }
+    requires { Reads records.now.words.now area.old records.now.layout × (from.0 < records.now.layout.modules)
+        × Run records.now.layout.modules area.old n }
     ensures { Grown records.now.layout.modules area.old n area.new result
         (added (snap_by records.now area.old) from.0 (run_at area.old n)
         (names_alone (prelude_entries (snap_by records.now area.old) from.0 types
@@ -182,7 +189,8 @@ fn offer_prelude(records: &Records, area: &mut [u32], from: ModuleId, n: usize) 
 
 // The modules that one name alone means.
 pub(crate) fn offer_plains(records: &Records, area: &mut [u32], from: ModuleId, n: usize) -> usize
-    requires { Reads records.now.words.now area.old records.now.layout × (from.0 < records.now.layout.modules) × Run records.now.layout.modules area.old n }
+    requires { Reads records.now.words.now area.old records.now.layout × (from.0 < records.now.layout.modules)
+        × Run records.now.layout.modules area.old n }
     ensures { Grown records.now.layout.modules area.old n area.new result
         (added (snap_by records.now area.old) from.0 (run_at area.old n)
         (single true (snap_by records.now area.old) from.0 types)) }

@@ -18,7 +18,8 @@ use snapshot::records::Records;
 
 // The n rows are taken up, none of those that come in.
 pub(crate) fn expand_all(records: &Records, area: &mut [u32], from: ModuleId, n: usize) -> usize
-    requires { Reads records.now.words.now area.old records.now.layout × (from.0 < records.now.layout.modules) × Run records.now.layout.modules area.old n
+    requires { Reads records.now.words.now area.old records.now.layout × (from.0 < records.now.layout.modules)
+        × Run records.now.layout.modules area.old n
         × Each (Meant (snap_by records.now area.old) from.0) (run_at area.old n) }
     ensures { Grown records.now.layout.modules area.old n area.new result
         (added (snap_by records.now area.old) from.0 (run_at area.old n)
@@ -39,7 +40,8 @@ pub(crate) fn take_up(
     start: usize,
     n: usize,
 ) -> usize
-    requires { Reads records.now.words.now area.old records.now.layout × (from.0 < records.now.layout.modules) × Run records.now.layout.modules area.old n
+    requires { Reads records.now.words.now area.old records.now.layout × (from.0 < records.now.layout.modules)
+        × Run records.now.layout.modules area.old n
         × Each (Meant (snap_by records.now area.old) from.0) (run_at area.old n) }
     ensures { Grown records.now.layout.modules area.old n area.new result
         (queue (snap_by records.now area.old) from.0 (length (snap_by records.now area.old).modules)
@@ -58,7 +60,8 @@ pub(crate) fn take_up(
 /// The modules that paths mean which begin with a keyword or `::`.
 // That the area has room for all rows is a clause: the two runs and `shortest` take a slice of any length, and `Area` would ask for its own.
 pub fn run_keywords(records: &Records, area: &mut [u32], from: ModuleId) -> usize
-    requires { Reads records.now.words.now area.old records.now.layout × (from.0 < records.now.layout.modules) × (row_at module_limit ≤ length area.old) }
+    requires { Reads records.now.words.now area.old records.now.layout × (from.0 < records.now.layout.modules)
+        × (row_at module_limit ≤ length area.old) }
     ensures { Grown records.now.layout.modules area.old 0 area.new result
         (run false (snap_by records.now area.old) from.0) }
 {
@@ -70,7 +73,8 @@ pub fn run_keywords(records: &Records, area: &mut [u32], from: ModuleId) -> usiz
 
 /// The modules that paths mean which begin with a name.
 pub fn run_plain(records: &Records, area: &mut [u32], from: ModuleId) -> usize
-    requires { Reads records.now.words.now area.old records.now.layout × (from.0 < records.now.layout.modules) × (row_at module_limit ≤ length area.old) }
+    requires { Reads records.now.words.now area.old records.now.layout × (from.0 < records.now.layout.modules)
+        × (row_at module_limit ≤ length area.old) }
     ensures { Grown records.now.layout.modules area.old 0 area.new result
         (run true (snap_by records.now area.old) from.0) }
 {

@@ -20,7 +20,8 @@ use snapshot::records::Records;
 
 // The extern with its head at a place, if it is one of the crate's.
 fn offer_extern(records: &Records, area: &mut [u32], c: Crate, n: usize, h: usize) -> usize
-    requires { Reads records.now.words.now area.old records.now.layout × ExternFits (counts_in records.now.layout) (extern_at records.now.words.now h) × Run records.now.layout.modules area.old n }
+    requires { Reads records.now.words.now area.old records.now.layout
+        × ExternFits (counts_in records.now.layout) (extern_at records.now.words.now h) × Run records.now.layout.modules area.old n }
     ensures { Grown records.now.layout.modules area.old n area.new result (with_extern c.0 (run_at area.old n)
         (extern_at records.now.words.now h)) }
 {
@@ -46,7 +47,8 @@ pub(crate) fn offer_absolutes(
     from: ModuleId,
     n: usize,
 ) -> usize
-    requires { Reads records.now.words.now area.old records.now.layout × (from.0 < records.now.layout.modules) × Run records.now.layout.modules area.old n }
+    requires { Reads records.now.words.now area.old records.now.layout × (from.0 < records.now.layout.modules)
+        × Run records.now.layout.modules area.old n }
     ensures { Grown records.now.layout.modules area.old n area.new result
         (added (snap_by records.now area.old) from.0 (run_at area.old n)
         (single false (snap_by records.now area.old) from.0 types)) }

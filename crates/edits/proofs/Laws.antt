@@ -6,7 +6,8 @@ use mathlib.Core.Bool.{true, false}
 use native.Mathlib.Omega.{arith}
 use lib.ListN.{length, take, replicate}
 use lib.Seq.{length-take-le}
-use borrow.Author.Tests.{lt-ltb, le-ltb}
+use borrow.Author.Tests.{lt-ltb, le-ltb, ltb-true, ltb-false}
+use lib.Dec.{ltb}
 use Rattle.snapshot.specs.Records.{Snapshot, Scope}
 use Rattle.snapshot.specs.declared.layout.Layout.{Layout}
 use Rattle.snapshot.specs.Lists.{any}
@@ -20,6 +21,7 @@ use Rattle.snapshot.specs.declared.refusal.Refusal.{Refusal}
 use Rattle.snapshot.specs.declared.refusal.Refusal.TheVariants.{Area, Words}
 use Rattle.accept.specs.Post.{Checked, Checks, check_of}
 use Rattle.accept.specs.declared.check.Refused.{Refused}
+use Rattle.accept.proofs.Accepted.{by_test}
 use Rattle.answer.specs.Answers.{zeros, area_after}
 use Rattle.edit_rules.specs.Entries.{scope_words, is_named, scopes_end, entry_place, inserted, cut}
 use Rattle.edit_rules.specs.Edits.{Edit, refused_by, edited, Operation, adding, removing, edit_fault, edited_words, edit_unless, edit_by, edit_within}
@@ -117,12 +119,19 @@ module _ (W : List ℕ) (n : ℕ) where
 
   -- in any work area
 
-  pub opens_small : (area : ℕ) → area < area_limit → Opens W n area (Err Area)
+  opens_small : (area : ℕ) → area < area_limit → Opens W n area (Err Area)
   opens_small area h o = of_small area W n o h
 
-  pub opens_large : (area : ℕ) → area_limit ≤ area → (r : Result Layout Refusal) → Opens W n area_limit r → Opens W n area r
+  opens_large : (area : ℕ) → area_limit ≤ area → (r : Result Layout Refusal) → Opens W n area_limit r → Opens W n area r
   opens_large area h (Err k) p = λ o. of_large area W n o h ∙ sym (of_large area_limit W n o (omega arith)) ∙ p o
   opens_large area h (Ok l) p = (h, p.1)
+
+  pub opens_by : (area : ℕ) (r : Result Layout Refusal) → (area < area_limit → r ≡ Err Area) → (area_limit ≤ area → Opens W n area_limit r)
+      → Opens W n area r
+  opens_by area r f g =
+      by_test (ltb area area_limit)
+      (λ t. let h = ltb-true _ _ t in subst (Opens W n area) (sym (f h)) (opens_small area h))
+      (λ t. let h = ltb-false _ _ t in opens_large area h r (g h))
 
 module _ (W A₀ : List ℕ) (n : ℕ) (A : List ℕ) (a : A ≡ area_after A₀) (o : Operation) where
   pub edit_not : (k : Refusal) → Opens W n (length A₀) (Err k) → EditsIn W n A₀ o W A (record { number = refusal_number k; count = n })

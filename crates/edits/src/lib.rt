@@ -16,7 +16,7 @@ ghost use Rattle.edit_rules.specs.Edits.{adding, removing, edit_by};
 ghost use Rattle.edits.specs.Edits.{Edits, EditsIn, Opens};
 
 use accept::check::check;
-use answer::area::clear;
+use answer::area::in_front;
 use edit_rules::scope_edits::entries::{add_fault, record_of};
 use edit_rules::scope_edits::moves::{insert, remove};
 use edit_rules::scope_edits::places::{EntryKey, entry_place, scopes_end};
@@ -41,12 +41,7 @@ fn opened(words: &[u32], count: usize, area: &mut [u32]) -> Result<Layout, Refus
     ensures opens { Opens words.now count (length area.old) result }
     ensures area_after { area.new ≡ area_after area.old }
 {
-    let Some(front) = area.first_chunk_mut() else {
-        return Err(Refusal::Area);
-    };
-    let r = check_first(words, count, front);
-    clear(front);
-    r
+    in_front(area, |front| check_first(words, count, front))
 }
 
 // Adds an entry to an accepted snapshot; answers the new count.

@@ -22,8 +22,10 @@ use Rattle.find_path_choice.specs.Choices.{via_variant, via_import, step_by, pus
 use Rattle.find_path_spec.specs.declared.FindPathCtx.{FindPathCtx}
 use Rattle.find_path_spec.specs.Rules.{module_in, sought_of, scope_rule, prelude_rule, first_found, module_rules}
 use Rattle.find_path_spec.specs.Meters.{Charged, Charge, go, stop}
-use Rattle.find_path_spec.specs.Charged.{Out, Search, Inner, is_stable, langs, one_or_none, is_at, variant_of, push_variant, offer_import, find_import}
-use Rattle.find_path_spec.specs.Charged.{find_imports, find_in_dep, find_in_deps, find_in_sysroot, go_on, after_charge, calculate_best_path, or_charged}
+use Rattle.find_path_spec.specs.Charged.{Out, Search, Inner, is_stable, langs, one_or_none, is_at, variant_of, push_variant, offer_import}
+use Rattle.find_path_spec.specs.Charged.{find_import}
+use Rattle.find_path_spec.specs.Charged.{find_imports, find_in_dep, find_in_deps, find_in_sysroot, go_on, after_charge, calculate_best_path}
+use Rattle.find_path_spec.specs.Charged.{or_charged}
 use Rattle.find_path_spec.specs.Charged.{find_path_for_module, after_enum, via_enum, or_enum, by_name, of_module, find_path_inner}
 use Rattle.find_path_spec.specs.Search.{best_local, module_to, search_module, item_to, search_item}
 use Rattle.join_rules.specs.Joined.{Numbers, or_none, second_to, first_to}

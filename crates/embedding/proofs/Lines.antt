@@ -22,7 +22,8 @@ use Rattle.find_path_spec.specs.declared.Tank.{Tank}
 use Rattle.find_path_spec.specs.Rules.{bit}
 use Rattle.find_path_spec.specs.Charged.{Out}
 use Rattle.find_path_spec.specs.Report.{question_fault, refused, flag, misleads, outcome_by, reported, answer_unless}
-use Rattle.find_path_spec.specs.Line.{bytes_of, unpacked, text_of, edition_in, written_of, decimal, joined, prefix_parts, path_text, line_parts, line_in}
+use Rattle.find_path_spec.specs.Line.{bytes_of, unpacked, text_of, edition_in, written_of, decimal, joined, prefix_parts, path_text, line_parts}
+use Rattle.find_path_spec.specs.Line.{line_in}
 use Rattle.join_rules.specs.Joined.{Numbers}
 use Rattle.embedding.specs.Embeds.{Embeds, item_to}
 use Rattle.embedding.proofs.Lookups.{Along, end, next, kind_moved, fits}

@@ -26,11 +26,12 @@ use Rattle.join_rules.specs.Joined.{definition_put, placed_by, placed, kind_base
 use Rattle.join_rules.proofs.Lists.{any_not, any_has, placed_at}
 use Rattle.join_rules.proofs.Merged.{kept_less, number_old, merged_low}
 use Rattle.join_rules.proofs.Stages.{Whole}
-use Rattle.join_rules.proofs.Wholes.{each_two}
+use Rattle.edit_rules.proofs.scope_edits.Lists.{each_both}
 use Rattle.join_rules.proofs.Sound.{name_at_lem, name_apart, is_other, other_kind, definition_counts, definition_low, definition_at_lem}
 use Rattle.join_rules.proofs.Sound.{module_counts}
 use Rattle.join_rules.proofs.Sound.{module_low, module_high, map_low, map_high}
 use Rattle.embedding.proofs.Chains.{none_same}
+use Rattle.embedding.proofs.joined_lines.Sizes.{shifted}
 use Rattle.embedding.specs.Embeds.{Within, done, ours, theirs, Embeds}
 
 -- the first element that passes
@@ -95,7 +96,7 @@ module _ {A : Type 0} {Alike : A → A → Type 0} {Others : A → Type 0} (put 
   within_right at h a (x ∷ xs) ys (more p ps) = theirs (h at x p) (within_right (at + size) h a xs ys ps)
 
 members_fit : (s : Snapshot) → Valid s → Each (λ x. MemberFits (counts_of s) x × Belongs s.definitions x) s.members
-members_fit s v = each_two (λ x f b. (f, b)) v.ranges.members v.members
+members_fit s v = each_both v.ranges.members v.members
 
 -- lists of records that know no place
 module _ {A : Type 0} {Alike : A → A → Type 0} {Others : A → Type 0} (f : A → A) where
@@ -352,12 +353,6 @@ module _ (s t : Snapshot) (v : Valid s) (w : Valid t) (sw : Whole s) (tw : Whole
       by_test (ltb i j) (λ b. absurd (ordered_apart i j (ltb-true i j b) li lj q))
       (λ b. let g = ltb-false i j b in absurd (ordered_apart j i (omega arith) lj li (sym q))))
 
-  shift_same : (n a b : ℕ) → eqb (n + a) (n + b) ≡ eqb a b
-  shift_same n a b =
-      by_test (eqb a b)
-      (λ x. let q = eqb-true a b x in eq-eqb (n + a) (n + b) (omega arith) ∙ sym x)
-      (λ x. let q = eqb-false a b x in ne_eqb (n + a) (n + b) (λ z. omega arith) ∙ sym x)
-
   second_root : (k : ℕ) → k < length t.maps
       → place_of (λ (x : Module). eqb x.map (length s.maps + k)) 0 (s.modules ++ map (module_to e) t.modules)
       ≡ length s.modules + place_of (λ (x : Module). eqb x.map k) 0 t.modules
@@ -371,7 +366,7 @@ module _ (s t : Snapshot) (v : Valid s) (w : Valid t) (sw : Whole s) (tw : Whole
       ∙ ap (λ j. place_of p j (map (module_to e) t.modules)) q
       ∙ place_shift p (length s.modules) 0 (map (module_to e) t.modules)
       ∙ ap (λ j. length s.modules + j) (place_map p (λ (x : Module). eqb x.map k) (module_to e) 0 t.modules
-      (λ y. shift_same (length s.maps) y.map k))
+      (λ y. shifted (length s.maps) y.map k))
 
   second_own : (c : ℕ) → c < length t.crates
       → place_of (λ (x : Map). eqb x.crate (length s.crates + c) && eqb x.block 0) 0 (s.maps ++ map (map_to e) t.maps)
@@ -390,7 +385,7 @@ module _ (s t : Snapshot) (v : Valid s) (w : Valid t) (sw : Whole s) (tw : Whole
       ∙ place_shift p (length s.maps) 0 (map (map_to e) t.maps)
       ∙ ap (λ j. length s.maps + j)
       (place_map p (λ (x : Map). eqb x.crate c && eqb x.block 0) (map_to e) 0 t.maps
-      (λ y. ap₂ (λ a b. a && b) (shift_same (length s.crates) y.crate c) (none_same e.modules y.block)))
+      (λ y. ap₂ (λ a b. a && b) (shifted (length s.crates) y.crate c) (none_same e.modules y.block)))
 
   -- The second part.
   pub second_embedded : Embeds (second_numbers s t) t u

@@ -19,11 +19,14 @@ use Rattle.hir_def.specs.Nameres.{prelude_of}
 use Rattle.hir_def.specs.declared.Item.{Item}
 use Rattle.hir_def.specs.declared.Item.TheVariants.{Mod, Def}
 use Rattle.hir_def.proofs.Chains.{map_known}
-use Rattle.read_back.specs.readings.Reads.{self_kind, super_kind, crate_kind, absolute_kind, variant_member, outward, scopes_from, stands_for, meaning}
+use Rattle.read_back.specs.readings.Reads.{self_kind, super_kind, crate_kind, absolute_kind, variant_member, outward, scopes_from, stands_for}
+use Rattle.read_back.specs.readings.Reads.{meaning}
 use Rattle.read_back.specs.readings.Reads.{entry_or}
-use Rattle.read_back.specs.readings.Reads.{is_extern_named, extern_named, extern_means, in_externs, prelude_means, in_prelude_of, entry_from, first_name}
+use Rattle.read_back.specs.readings.Reads.{is_extern_named, extern_named, extern_means, in_externs, prelude_means, in_prelude_of, entry_from}
+use Rattle.read_back.specs.readings.Reads.{first_name}
 use Rattle.read_back.specs.readings.Reads.{is_variant_named}
-use Rattle.read_back.specs.readings.Reads.{variant_named, variant_in, later_name, after, looked_in, follow, plainly, absolutely, parent_means, reads_to, is_the}
+use Rattle.read_back.specs.readings.Reads.{variant_named, variant_in, later_name, after, looked_in, follow, plainly, absolutely, parent_means}
+use Rattle.read_back.specs.readings.Reads.{reads_to, is_the}
 use Rattle.read_back.specs.readings.Reads.{reads_back}
 use Rattle.read_back.proofs.Outward.{outward_falls}
 use Rattle.join_rules.specs.Joined.{Numbers, or_none, prelude_to, member_to}

@@ -20,7 +20,8 @@ use Rattle.hir_def.proofs.Chains.{map_known}
 use Rattle.find_path_choice.specs.Choices.{Choice}
 use Rattle.find_path_choice.specs.Choices.{plain_path, self_path, super_path, crate_path, via_scope, via_prelude, via_extern, step_by, choice_new}
 use Rattle.find_path_spec.specs.declared.FindPathCtx.{FindPathCtx}
-use Rattle.find_path_spec.specs.Rules.{by_crate, prefix_path_kind, first_found, single, find_in_scope, may_be_in_scope, scope_rule, same_here, is_usable}
+use Rattle.find_path_spec.specs.Rules.{by_crate, prefix_path_kind, first_found, single, find_in_scope, may_be_in_scope, scope_rule, same_here}
+use Rattle.find_path_spec.specs.Rules.{is_usable}
 use Rattle.find_path_spec.specs.Rules.{prelude_entry}
 use Rattle.find_path_spec.specs.Rules.{in_prelude, find_in_prelude, prelude_rule, extern_kind, extern_name, root_rule, parent_kind}
 use Rattle.find_path_spec.specs.Rules.{is_kw_kind_relative_to_from}

@@ -24,7 +24,7 @@ use Rattle.imports.specs.order.Lists.{Ready}
 use Rattle.import_rules.proofs.import_words.Taken.{words_length}
 use Rattle.imports.specs.lists.Threads.{Threaded}
 use Rattle.imports.specs.lists.Walks.{order_base, order_at, Walked}
-use Rattle.imports.specs.lists.Writes.{written}
+use Rattle.answer.specs.counts.Targets.{written}
 use Rattle.imports.proofs.lists.Walks.{threaded_kept}
 use Rattle.imports.proofs.lists.Writing.{over_small}
 use Rattle.imports.specs.Listings.{Listing, refused_by, listed, list_in, list_by, list_of, number_in, words_in, Lists, ListsIn}

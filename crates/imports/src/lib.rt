@@ -3,10 +3,8 @@
 #![tactic(auto)]
 
 ghost use Rattle.std.specs.Prelude.{◌≡◌, length};
-ghost use Rattle.snapshot.specs.Limits.{area_limit};
 ghost use Rattle.snapshot.specs.Laid.{snap_by};
 ghost use Rattle.check_rules.specs.Verdict.{verdict};
-ghost use Rattle.answer.specs.Answers.{zeros};
 ghost use Rattle.answer.specs.counts.Counts.{told};
 ghost use Rattle.imports.specs.order.Lists.{Ready};
 ghost use Rattle.imports.specs.Listings.{list_in, list_by, Lists, ListsIn};
@@ -66,26 +64,9 @@ fn list_checked(
     list_accepted(&Records { words, layout }, area, c, target)
 }
 
-// The same, in a work area that serves and is cleared.
-fn list_within(
-    words: &[u32],
-    area: &mut Area,
-    c: Crate,
-    target: &mut [u32],
-) -> Result<usize, Refusal>
-    ensures lists { Lists target.old (list_by c.0 (length target.old) (verdict words.now))
-        target.new (told 0 result) }
-    ensures area_after { area.new ≡ zeros area_limit }
-{
-    let r = list_checked(words, area, c, target);
-    clear(area);
-    r
-}
-
 /// Writes the import records of a crate to the target, in the order in which the Rust adds them, and answers how many words these are;
 /// what stands past them stays. Or answers why the call is refused, with the target unchanged: 20 a small work area,
 /// 30 to 36 and 43 the snapshot, 23 an unknown crate, 45 a target that is too short. The work area is left as `find_path` leaves it.
-// The test of the work area begins `join`, `new_numbers` and `find_reach` too: past it each cuts the area for a function with other slices.
 pub fn import_list(
     words: &[u32],
     area: &mut [u32],
@@ -97,5 +78,7 @@ pub fn import_list(
     let Some(front) = area.first_chunk_mut() else {
         return Err(Refusal::Area);
     };
-    list_within(words, front, c, target)
+    let r = list_checked(words, front, c, target);
+    clear(front);
+    r
 }

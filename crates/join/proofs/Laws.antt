@@ -21,7 +21,8 @@ use Rattle.hir_def.specs.Finds.{select}
 use Rattle.find_path_spec.proofs.laws.Walks.{select_short}
 use Rattle.answer.specs.Answers.{zeros}
 use Rattle.answer.proofs.Areas.{area_small, area_large}
-use Rattle.join_rules.specs.Joined.{is_new, merged, same_builtin, second_numbers, module_to, definition_to, together, joined_words, is_within, Joining}
+use Rattle.join_rules.specs.Joined.{is_new, merged, same_builtin, second_numbers, module_to, definition_to, together, joined_words, is_within}
+use Rattle.join_rules.specs.Joined.{Joining}
 use Rattle.join_rules.specs.Joined.{refused_by, joined_as, join_in, join_by, join_of}
 use Rattle.join_rules.proofs.Joins.{joined_accepted}
 use Rattle.join_rules.proofs.Merged.{map_length}
@@ -30,7 +31,8 @@ use Rattle.join.specs.numbers.Numbered.{Numbered}
 use Rattle.join.specs.declared.numbers.tables.New.{New}
 use Rattle.join.proofs.numbers.Parts.{part_of_lem, read_is}
 use Rattle.join.specs.records.Moves.{words_to}
-use Rattle.join.specs.records.Writes.{written, Space, Wrote, Whole}
+use Rattle.join.specs.records.Writes.{Space, Wrote, Whole}
+use Rattle.answer.specs.counts.Targets.{written}
 use Rattle.join.proofs.records.Laws.{words_few}
 use Rattle.join.specs.Joins.{number_in, words_in, Joins, JoinsIn, fits_in}
 use Rattle.answer.specs.counts.Counts.{Counted}
@@ -252,7 +254,8 @@ module _ (W X T : List ℕ) where
   unfolding join_by
   first_not {k} e = joins_not k (ap (λ v. join_by (length T) v (verdict X)) (sym e))
 
-  pub first_done : {A : List ℕ} {l : Layout} {Y : List ℕ} {r : Counted} → Reads W A l → Joins T (join_by (length T) (accept (part_of W)) (verdict X)) Y r
+  pub first_done : {A : List ℕ} {l : Layout} {Y : List ℕ} {r : Counted} → Reads W A l
+      → Joins T (join_by (length T) (accept (part_of W)) (verdict X)) Y r
       → Joins T (join_by (length T) (verdict W) (verdict X)) Y r
   first_done {A} {l} {Y} {r} q h =
       subst (λ v. Joins T (join_by (length T) v (verdict X)) Y r) (sym (q.same ∙ ap accept (sym (read_is W A l q)))) h

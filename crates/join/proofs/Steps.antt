@@ -17,7 +17,8 @@ use Rattle.accept.proofs.Accepted.{by_test}
 use Rattle.edit_rules.specs.Entries.{scope_words}
 use Rattle.edit_rules.specs.Written.{head_of, name_words, crate_words, dependency_words, child_words, prelude_words, definition_words, import_words}
 use Rattle.edit_rules.specs.Written.{extern_words, member_words}
-use Rattle.join_rules.specs.Joined.{is_new, name_number, same_builtin, definition_number, Numbers, second_numbers, dependency_to, child_to, prelude_to}
+use Rattle.join_rules.specs.Joined.{is_new, name_number, same_builtin, definition_number, Numbers, second_numbers, dependency_to, child_to}
+use Rattle.join_rules.specs.Joined.{prelude_to}
 use Rattle.join_rules.specs.Joined.{definition_to, first_to, second_to, visible_to, scope_to, import_to, extern_to, member_to}
 use Rattle.join_rules.proofs.Runs.{At, kind_is, Small}
 use Rattle.join.specs.numbers.Parts.{Counted}

@@ -8,7 +8,8 @@ use native.Mathlib.Nat.{zero-add}
 use lib.ListN.{length, get_or}
 use Rattle.snapshot.specs.Lists.{rows}
 use Rattle.snapshot.specs.Records.{Crate, Dependency, Child, Prelude, Scope, Import, Extern, Member, Snapshot}
-use Rattle.snapshot.specs.Layouts.{crate_base, dependency_base, map_base, child_base, prelude_base, definition_base, scope_base, import_base, extern_base}
+use Rattle.snapshot.specs.Layouts.{crate_base, dependency_base, map_base, child_base, prelude_base, definition_base, scope_base, import_base}
+use Rattle.snapshot.specs.Layouts.{extern_base}
 use Rattle.snapshot.specs.Layouts.{member_base, word_count}
 use Rattle.snapshot.specs.declared.layout.Layout.{Layout}
 use Rattle.check_rules.specs.Tests.{no_name, no_definition, same_name}
@@ -17,7 +18,8 @@ use Rattle.accept.proofs.Bools.{each_map, each_at}
 use Rattle.accept.proofs.Valid.{accepted_valid}
 use Rattle.hir_def.specs.Finds.{select}
 use Rattle.edit_rules.specs.Entries.{scope_words}
-use Rattle.edit_rules.specs.Written.{name_words, crate_words, dependency_words, child_words, prelude_words, definition_words, import_words, extern_words}
+use Rattle.edit_rules.specs.Written.{name_words, crate_words, dependency_words, child_words, prelude_words, definition_words, import_words}
+use Rattle.edit_rules.specs.Written.{extern_words}
 use Rattle.edit_rules.specs.Written.{member_words, each_words, tree_words, joined, snapshot_words}
 use Rattle.join_rules.specs.Joined.{is_new, merged, same_builtin, Numbers, second_numbers, dependency_to, map_to, module_to, child_to, prelude_to}
 use Rattle.join_rules.specs.Joined.{definition_to, scope_to, import_to, extern_to, member_to, together, joined_words}
@@ -31,7 +33,8 @@ use Rattle.join.proofs.numbers.Parts.{Kinds, part_kinds}
 use Rattle.join.specs.records.Moves.{moved_run, run_of, base_of, kind_to, words_to}
 use Rattle.join.proofs.records.Passes.{run_is, passes_to, passes_done, Step, each_passes, select_all, each_of_map}
 use Rattle.join.proofs.records.Trees.{tree_both, tree_passes}
-use Rattle.join.proofs.Steps.{partly_same, name_step_lem, crate_step_lem, dependency_step_lem, child_step_lem, prelude_step_lem, definition_step_lem, scope_step_lem}
+use Rattle.join.proofs.Steps.{partly_same, name_step_lem, crate_step_lem, dependency_step_lem, child_step_lem, prelude_step_lem}
+use Rattle.join.proofs.Steps.{definition_step_lem, scope_step_lem}
 use Rattle.join.proofs.Steps.{import_step_lem, extern_step_lem, member_step_lem}
 
 module _ (A W X : List ℕ) (l m : Layout) where

@@ -5,9 +5,7 @@
 #![tactic(auto)]
 
 ghost use Rattle.std.specs.Prelude.{◌≡◌, length};
-ghost use Rattle.snapshot.specs.Limits.{area_limit};
 ghost use Rattle.check_rules.specs.Verdict.{accept, verdict};
-ghost use Rattle.answer.specs.Answers.{zeros};
 ghost use Rattle.answer.specs.counts.Counts.{told};
 ghost use Rattle.join_rules.specs.Joined.{join_in, join_by};
 ghost use Rattle.join.specs.numbers.Parts.{part_of, Part, ready_in, first_in, second_in};
@@ -121,22 +119,6 @@ fn join_checked(
     join_second(&first, second, area, target)
 }
 
-// The same, in a work area that serves and is cleared.
-fn join_within(
-    first: &[u32],
-    second: &[u32],
-    area: &mut Area,
-    target: &mut [u32],
-) -> Result<usize, Refusal>
-    ensures joins { Joins target.old (join_by (length target.old) (verdict first.now)
-        (verdict second.now)) target.new (told 0 result) }
-    ensures area_after { area.new ≡ zeros area_limit }
-{
-    let r = join_checked(first, second, area, target);
-    clear(area);
-    r
-}
-
 /// Writes the words of the two snapshots joined to the target, and answers how many these are; what stands past them stays. Or answers why
 /// the call is refused, with the target unchanged: 20 a small work area, 30 to 36 and 43 the first snapshot, then the second, 51 a result
 /// that passes a limit or does not fit the target. The work area is left as `find_path` leaves it.
@@ -152,5 +134,7 @@ pub fn join(
     let Some(front) = area.first_chunk_mut() else {
         return Err(Refusal::Area);
     };
-    join_within(first, second, front, target)
+    let r = join_checked(first, second, front, target);
+    clear(front);
+    r
 }

@@ -26,7 +26,7 @@ use Rattle.join_rules.proofs.Lists.{any_not}
 use Rattle.join_rules.proofs.Merged.{each_mapped, both_length, both_low, both_high, by_both, kept_at, kept_less, From, from, from_less}
 use Rattle.join_rules.proofs.Merged.{number_new, number_old, new_apart, merged_length, merged_low, merged_high, name_equal, name_refl}
 use Rattle.join_rules.proofs.Stages.{DefinitionWhole, Whole}
-use Rattle.join_rules.proofs.Wholes.{each_two}
+use Rattle.edit_rules.proofs.scope_edits.Lists.{each_two, each_both}
 
 -- a number +1 that is none after it is moved was none, and another one was moved
 
@@ -41,9 +41,6 @@ some_moved f (suc n) p e = (n, refl, omega arith)
 moved_low : (f : ℕ → ℕ) (n m top : ℕ) → ((k : ℕ) → k < m → f k < top) → n ≤ m → or_none f n ≤ top
 moved_low f zero m top h l = omega arith
 moved_low f (suc n) m top h l = let k = h n (omega arith) in omega arith
-
-each_pair_lem : {A : Type 0} {P Q : A → Type 0} {xs : List A} → Each P xs → Each Q xs → Each (λ x. P x × Q x) xs
-each_pair_lem a b = each_two (λ x p q. (p, q)) a b
 
 apart_two : (a b : ℕ) → (a ≡ b → ⊥) → (c d : Bool) → eqb a b && c && d ≡ false
 apart_two a b h c d = rw (ne_eqb a b h)
@@ -894,18 +891,18 @@ module _ (s t : Snapshot) (v : Valid s) (w : Valid t) (sw : Whole s) (tw : Whole
           enums = enums;
           children =
               each_append (each_two (λ x f h. under_low x f h) v.ranges.children v.children)
-              (each_mapped (child_to e) (λ x h. under_high x h.0 h.1) (each_pair_lem w.ranges.children w.children));
+              (each_mapped (child_to e) (λ x h. under_high x h.0 h.1) (each_both w.ranges.children w.children));
           scopes =
               each_append (each_two (λ x f h. macro_low x.ns x.definition f.definition h) v.ranges.scopes v.scopes)
               (each_mapped (scope_to e) (λ x h. macro_high x.ns x.definition h.0.definition h.1)
-              (each_pair_lem w.ranges.scopes w.scopes));
+              (each_both w.ranges.scopes w.scopes));
           imports =
               each_append (each_two (λ x f h. macro_low x.ns x.definition f.definition h) v.ranges.imports v.imports)
               (each_mapped (import_to e) (λ x h. macro_high x.ns x.definition h.0.definition h.1)
-              (each_pair_lem w.ranges.imports w.imports));
+              (each_both w.ranges.imports w.imports));
           members =
               each_append (each_two (λ x f h. belongs_low x f h) v.ranges.members v.members)
-              (each_mapped (member_to e) (λ x h. belongs_high x h.0 h.1) (each_pair_lem w.ranges.members w.members));
+              (each_mapped (member_to e) (λ x h. belongs_high x h.0 h.1) (each_both w.ranges.members w.members));
           filled = filled;
           owned = owned;
           once = record { names = names_once; children = children_once; preludes = preludes_once; scopes = scopes_once; externs = externs_once };
@@ -938,5 +935,5 @@ module _ (s t : Snapshot) (v : Valid s) (w : Valid t) (sw : Whole s) (tw : Whole
         definitions =
             each_append (each_two definition_whole_low v.ranges.definitions sw.definitions)
             (each_mapped (definition_to e) (λ x h. definition_whole_high x h.0 h.1)
-            (each_select is_other (each_pair_lem w.ranges.definitions tw.definitions)));
+            (each_select is_other (each_both w.ranges.definitions tw.definitions)));
       }

@@ -28,6 +28,7 @@ use Rattle.check_rules.specs.Verdict.{record_step, accept, records, empty, verdi
 use Rattle.accept.specs.Valid.{Each, none, more}
 use Rattle.accept.proofs.Accepted.{by_test, verdict_keeps, judge_on, judge_crate_on}
 use Rattle.accept.proofs.Bools.{and_three, and_four, unless_right, or_right, each_map, each_snoc, length_snoc, get_or_old}
+use Rattle.edit_rules.proofs.scope_edits.Lists.{each_two}
 use Rattle.edit_rules.proofs.scope_edits.Stepped.{taking}
 use Rattle.edit_rules.proofs.scope_edits.Folded.{records_done, next_record}
 use Rattle.edit_rules.proofs.scope_edits.Split.{verdict_records}
@@ -220,10 +221,6 @@ accepted_tested W s e =
       members = λ s y p h. record { names = h.names; definitions = h.definitions };
     })
     (record { names = none; definitions = none }) s e).kept
-
-pub each_two : {A : Type 0} {P Q R : A → Type 0} {xs : List A} → ((x : A) → P x → Q x → R x) → Each P xs → Each Q xs → Each R xs
-each_two f none none = none
-each_two f (more {x = x} p ps) (more q qs) = more (f x p q) (each_two f ps qs)
 
 pub accepted_whole : (W : List ℕ) (s : Snapshot) → verdict W ≡ accept s → Whole s
 accepted_whole W s e =

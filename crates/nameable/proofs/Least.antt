@@ -36,6 +36,15 @@ pub shorter_first : (p q : Path) → names_in p ≤ names_in q → shorter (Some
 unfolding shorter
 shorter_first p q h = rw (shorter, le-ltb (names_in q) (names_in p) h)
 
+-- a path is told where it has few enough names
+pub up_yes : (p : Path) → names_in p ≤ names_limit → up_to names_limit (Some p) ≡ found p
+unfolding up_to
+up_yes p h = rw (up_to, le-leb (names_in p) names_limit h)
+
+pub up_no : (p : Path) → names_limit < names_in p → up_to names_limit (Some p) ≡ longer
+unfolding up_to
+up_no p h = rw (up_to, lt-leb (names_in p) names_limit h)
+
 module _ (P Q R : Path → Type 0) where
   pub shorter_least : (a b : Option Path) → Least P Q a → Least P R b → Least P (λ x. Q x ⊎ R x) (shorter a b)
   unfolding shorter
@@ -319,14 +328,6 @@ module _ (s : Snapshot) (from : ℕ) where
             least = λ q h. by_kind q h (f.1 q) (λ k. omega (arith, g.1 q k, l));
             begins = λ u q h k. absurd (true≢false (sym u ∙ f.0.plainly));
           }))
-
-      up_yes : (p : Path) → names_in p ≤ names_limit → up_to names_limit (Some p) ≡ found p
-      unfolding up_to
-      up_yes p h = rw (up_to, le-leb (names_in p) names_limit h)
-
-      up_no : (p : Path) → names_limit < names_in p → up_to names_limit (Some p) ≡ longer
-      unfolding up_to
-      up_no p h = rw (up_to, lt-leb (names_in p) names_limit h)
 
       up_right : (o : Option Path) → IsBest o → Right s from item (up_to names_limit o)
       unfolding up_to

@@ -106,8 +106,8 @@ pub fn asks_route(words: &[u32], at: usize) -> bool
 }
 
 /// The question at a place.
-// The words of `reports::questions::question_of` in another order, the first in a head with a kind: by one reader each field would take its place as a
-// parameter.
+// The words of `reports::questions::question_of` in another order, the first in a head with a kind: by one reader each field would take its
+// place as a parameter.
 pub fn question_at(words: &[u32], at: usize) -> Question
     ensures { result ≡ question_at words.now at }
 {

@@ -11,7 +11,7 @@ use crate::parts::firsts::is_met;
 use crate::parts::tally::tally;
 use crate::parts::{Reach, Viewer};
 use answer::checked::found::report_in;
-use find_path_spec::{Query, Report};
+use find_path_spec::Report;
 use snapshot::ids::Area;
 use snapshot::kind::Size;
 use snapshot::record::{scope_definition, scope_ns};
@@ -28,16 +28,7 @@ fn report_for(records: &Records, area: &mut Area, v: Viewer, h: usize) -> Report
 {
     let ns = scope_ns(records.words, h);
     let d = scope_definition(records.words, h);
-    let from = v.from;
-    let q = Query {
-        ns: ns,
-        definition: d,
-        from: from,
-        prefix: v.prefix,
-        options: v.options,
-        limit: v.limit,
-    };
-    report_in(records, area, q, v.fuel)
+    report_in(records, area, v.query_for(ns, d), v.fuel)
 }
 
 /// The counts of the reports for all distinct items; the tables stay.

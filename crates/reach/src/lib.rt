@@ -2,8 +2,6 @@
 //! Uses the entry points of `answer`.
 #![tactic(auto)]
 
-ghost use Rattle.std.specs.Prelude.{length};
-ghost use Rattle.snapshot.specs.Limits.{area_limit};
 ghost use Rattle.accept.specs.Post.{Judged};
 ghost use Rattle.reach.specs.parts.Reach.{told};
 ghost use Rattle.reach.specs.Reached.{Reached};
@@ -18,7 +16,6 @@ use crate::counts::reach_in;
 use crate::parts::{Reach, Viewer};
 use accept::check::Refused;
 use answer::checked::faults::call_fault;
-use find_path_spec::Query;
 use snapshot::ids::{Area, DefinitionId};
 use snapshot::layout::Layout;
 use snapshot::records::Records;
@@ -34,16 +31,8 @@ pub fn reach_on(
     requires { Judged words.now area.old c }
     ensures { Reached words.now v c area.new (told result) }
 {
-    let from = v.from;
-    let q = Query {
-        ns: 0,
-        definition: DefinitionId(0),
-        from: from,
-        prefix: v.prefix,
-        options: v.options,
-        limit: v.limit,
-    };
-    call_fault(area.len(), q, v.fuel)?;
+    // What a call is refused for is the same for each item.
+    call_fault(v.query_for(0, DefinitionId(0)), v.fuel)?;
     let layout = c?;
     if layout.modules <= v.from.0 {
         return Err(Refusal::Unknown);

@@ -22,9 +22,11 @@ use Rattle.hir_def.specs.Items.{types, item_of, same_item, ns_of, module_item, d
 use Rattle.hir_def.specs.ItemScope.{get}
 use Rattle.hir_def.specs.Nameres.{prelude_of}
 use Rattle.hir_def.specs.declared.Item.{Item}
-use Rattle.read_back.specs.readings.Reads.{stands_for, meaning, entry_or, extern_named, extern_means, in_externs, prelude_means, in_prelude_of, entry_from}
+use Rattle.read_back.specs.readings.Reads.{stands_for, meaning, entry_or, extern_named, extern_means, in_externs, prelude_means, in_prelude_of}
+use Rattle.read_back.specs.readings.Reads.{entry_from}
 use Rattle.read_back.specs.readings.Reads.{first_name}
-use Rattle.read_back.specs.readings.Reads.{variant_named, variant_in, later_name, after, looked_in, follow, plainly, absolutely, parent_means, reads_to, is_the}
+use Rattle.read_back.specs.readings.Reads.{variant_named, variant_in, later_name, after, looked_in, follow, plainly, absolutely, parent_means}
+use Rattle.read_back.specs.readings.Reads.{reads_to, is_the}
 use Rattle.read_back.specs.readings.Reads.{reads_back}
 
 module _ (s : Snapshot) (from : ℕ) where

@@ -14,8 +14,8 @@ use module_tree::modules::{block, parent};
 use snapshot::ids::{ModuleId, Name};
 
 // The block's parent of a block map's root, none of any other module.
-// `any_path::seen_entries::privacy::block_step` is the same step, of `tree_rules`, which defines privacy; this is of `readings`, which defines how names are
-// read: two definitions, so that a change of one is no change of the other.
+// `any_path::seen_entries::privacy::block_step` is the same step, of `module_tree`, which defines privacy; this is of `readings`, which defines
+// how names are read: two definitions, so that a change of one is no change of the other.
 fn outward(db: &Snapshot, m: ModuleId) -> Option<ModuleId>
     requires { m.0 < db.now.records.layout.modules }
     ensures { plus_one result ≡ outward_of (snap_in db.now) m.0 }

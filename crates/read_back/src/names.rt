@@ -63,8 +63,8 @@ pub(crate) fn in_externs(view: &View, ns: usize, name: Name) -> Option<Item>
 }
 
 // By the prelude of the viewer's map.
-// `any_path::prelude_named` and `told_paths::arrivals::plain_in_prelude` look up in the module by functions of their own: one of all three would be these two
-// lines with a closure, under a clause over what it answers.
+// `any_path::prelude_named` and `told_paths::arrivals::plain_in_prelude` look up in the module by functions of their own: one of all three would
+// be these two lines with a closure, under a clause over what it answers.
 fn in_prelude(view: &View, ns: usize, name: Name) -> Option<Item>
     ensures { result ≡ in_prelude_of (snap_in view.now.db) view.now.from.0 ns name.0 }
 {

@@ -1,49 +1,41 @@
 -- Laws of the answer.
 use Prim.Native.Nat.{ℕ, zero, suc, ◌≤◌, ◌<◌}
-use mathlib.Core.Path.{◌≡◌, refl, sym, ap, ap₂, subst, ◌∙◌}
-use mathlib.Core.List.{List, [], ◌∷◌, ◌++◌}
+use mathlib.Core.Path.{◌≡◌, refl, sym, ap, ap₂, ◌∙◌}
+use mathlib.Core.List.{List, [], ◌∷◌}
 use Rattle.std.specs.Prelude.{Option, None, Some, option_map}
 use native.Mathlib.Omega.{arith}
-use borrow.Author.Tests.{le-leb, lt-leb}
-use lib.ListN.{length, get_or, drop}
+use borrow.Author.Tests.{ltb-true, ltb-false}
+use lib.Dec.{ltb}
+use lib.ListN.{length, get_or}
 use Rattle.snapshot.specs.Limits.{area_limit}
 use Rattle.snapshot.specs.Refusals.{area_refusal}
 use Rattle.snapshot.specs.Records.{Snapshot}
 use Rattle.snapshot.specs.Layouts.{snap_of}
 use Rattle.snapshot.specs.PathKinds.{path_kind_number}
 use Rattle.snapshot.specs.declared.layout.Layout.{Layout}
-use Rattle.check_rules.specs.Verdict.{accept, verdict}
-use Rattle.accept.specs.Post.{Checked, Judged}
-use Rattle.std.specs.Prelude.{Ok, Err}
-use Rattle.snapshot.specs.Refusals.{refusal_number}
-use Rattle.accept.specs.declared.check.Refused.{Refused}
+use Rattle.check_rules.specs.Verdict.{refuse, accept, verdict}
+use Rattle.accept.proofs.Accepted.{by_test}
 use Rattle.hir_def.specs.Items.{item_of}
 use Rattle.hir_def.specs.declared.Item.{Item}
 use Rattle.nameable.specs.Paths.{Path, names_in, route_of}
-use Rattle.nameable.specs.Breadth.{found, longer, names_limit, up_to, shortest, any_path}
+use Rattle.nameable.specs.Breadth.{names_limit, up_to, shortest, any_path}
+use Rattle.nameable.proofs.Least.{up_yes, up_no}
 use Rattle.find_path_spec.specs.declared.Query.{Query}
 use Rattle.find_path_spec.specs.Report.{call_fault, question_fault}
 use Rattle.told_paths.specs.declared.ToldPath.{ToldPath}
 use Rattle.told_paths.specs.Tells.{padded, tell}
 use Rattle.told_paths.proofs.Laws.{tell_few, tell_count, told_gone, told_there}
 use Rattle.answer.proofs.checked.Laws.{small, same_fault, fault_known, definitions_count, modules_count}
-use Rattle.answer.specs.Answers.{zeros}
-use Rattle.answer.proofs.Areas.{area_small, area_large}
+use Rattle.answer.specs.Answers.{area_after}
 use Rattle.answer.specs.declared.any_answer.AnyReport.{AnyReport}
-use Rattle.answer.specs.any_answer.Any.{any_without, any_refused, any_reported, any_query, any_unless, any_by, any_after, any_report, AnyAnswers, question_of}
+use Rattle.answer.specs.any_answer.Any.{any_without, any_refused, any_reported, any_query, any_unless, any_by, any_after, any_report, AnyAnswers}
+use Rattle.answer.specs.any_answer.Any.{question_of}
 use Rattle.answer.specs.any_answer.Any.{AnyIn}
-
-up_few : (p : Path) → names_in p ≤ names_limit → up_to names_limit (Some p) ≡ found p
-unfolding up_to
-up_few p h = rw (up_to, le-leb (names_in p) names_limit h)
-
-up_many : (p : Path) → names_limit < names_in p → up_to names_limit (Some p) ≡ longer
-unfolding up_to
-up_many p h = rw (up_to, lt-leb (names_in p) names_limit h)
 
 -- What was found.
 module _ (s : Snapshot) (from ns : ℕ) where
-  pub told_nowhere : (o : Option Path) {r : AnyReport} → r ≡ any_without 1 0 → None ≡ option_map tell o → r ≡ any_reported s from ns (up_to names_limit o)
+  pub told_nowhere : (o : Option Path) {r : AnyReport} → r ≡ any_without 1 0 → None ≡ option_map tell o
+      → r ≡ any_reported s from ns (up_to names_limit o)
   unfolding up_to any_reported
   told_nowhere o er e = er ∙ sym (ap (λ (v : Option Path). any_reported s from ns (up_to names_limit v)) (told_gone o e))
 
@@ -58,7 +50,7 @@ module _ (s : Snapshot) (from ns : ℕ) where
 
     pub told_longer : {r : AnyReport} → names_limit < t.count → r ≡ any_without 3 0 → r ≡ any_reported s from ns (up_to names_limit (Some p))
     unfolding any_reported
-    told_longer h er = let c = its_count in er ∙ sym (ap (any_reported s from ns) (up_many p (omega (arith, h, c))))
+    told_longer h er = let c = its_count in er ∙ sym (ap (any_reported s from ns) (up_no p (omega (arith, h, c))))
 
     pub told_found : t.count ≤ names_limit → {R : List ℕ} {k : ℕ} → k ≡ path_kind_number t.kind
         → (names_in p ≤ names_limit → R ≡ padded (route_of s from ns p))
@@ -81,7 +73,7 @@ module _ (s : Snapshot) (from ns : ℕ) where
           route = R;
         })
         (e ∙ tell_few p few) (er few)
-        ∙ sym (ap (any_reported s from ns) (up_few p few)))
+        ∙ sym (ap (any_reported s from ns) (up_yes p few)))
 
 -- On accepted words.
 module _ (s : Snapshot) (q : Query) where
@@ -121,32 +113,27 @@ module _ (W : List ℕ) (area : ℕ) (q : Query) where
   unfolding any_report any_after
   on_verdict en z er = er ∙ ap (any_after W q) (sym z ∙ en)
 
-  module _ (A : List ℕ) (c : Checked) (j : Judged W A c) {n : ℕ} (en : n ≡ call_fault area q 0) (z : n ≡ 0) where
-    pub on_refused : {r : AnyReport} (f : Refused) → c ≡ Err f → r ≡ any_refused (refusal_number f.why) → r ≡ any_report W area q
+  module _ {n : ℕ} (en : n ≡ call_fault area q 0) (z : n ≡ 0) where
+    pub on_refused : {r : AnyReport} (m at : ℕ) → refuse m at ≡ verdict W → r ≡ any_refused m → r ≡ any_report W area q
     unfolding any_by
-    on_refused f e er =
-        let k : Judged W A (Err f) = subst (λ (x : Checked). Judged W A x) e j in on_verdict en z (er ∙ ap (any_by q) k.same)
+    on_refused m at e er = on_verdict en z (er ∙ ap (any_by q) e)
 
-    pub on_accepted : {r : AnyReport} (l : Layout) → c ≡ Ok l → r ≡ any_by q (accept (snap_of W A l)) → r ≡ any_report W area q
-    on_accepted l e er =
-        let k : Judged W A (Ok l) = subst (λ (x : Checked). Judged W A x) e j in on_verdict en z (er ∙ ap (any_by q) k.same)
+    pub on_accepted : {r : AnyReport} (s : Snapshot) → verdict W ≡ accept s → r ≡ any_by q (accept s) → r ≡ any_report W area q
+    on_accepted s e er = on_verdict en z (er ∙ ap (any_by q) (sym e))
 
 -- The entry point.
 module _ (W A : List ℕ) (ns d m : ℕ) where
-  pub answers_small : {r : AnyReport} → length A < area_limit → r ≡ any_refused area_refusal → AnyAnswers W A ns d m A r
-  answers_small h er =
-      record {
-        report = on_fault W (length A) (any_query ns d m) (small (length A) (any_query ns d m) 0 h) (λ z. omega arith) er;
-        area = area_small A h;
-      }
-
-  pub answers_large : {r : AnyReport} (B : List ℕ) → area_limit ≤ length A → r ≡ any_report W area_limit (any_query ns d m) → B ≡ zeros area_limit
-      → AnyAnswers W A ns d m (B ++ drop area_limit A) r
+  pub any_answers : {r : AnyReport} (B : List ℕ) → B ≡ area_after A → (length A < area_limit → r ≡ any_refused area_refusal)
+      → (area_limit ≤ length A → r ≡ any_report W area_limit (any_query ns d m)) → AnyAnswers W A ns d m B r
   unfolding any_report
-  answers_large B h er ez =
+  any_answers B e f g =
+      let q = any_query ns d m in
       record {
-        report = er ∙ ap (any_after W (any_query ns d m)) (same_fault area_limit (length A) (any_query ns d m) 0 (omega arith) h);
-        area = area_large A B h ez;
+        report =
+            by_test (ltb (length A) area_limit)
+            (λ t. let h = ltb-true _ _ t in on_fault W (length A) q (small (length A) q 0 h) (λ z. omega arith) (f h))
+            (λ t. let h = ltb-false _ _ t in g h ∙ ap (any_after W q) (same_fault area_limit (length A) q 0 (omega arith) h));
+        area = e;
       }
 
 -- as numbers

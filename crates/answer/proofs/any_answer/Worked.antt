@@ -5,7 +5,8 @@ use mathlib.Core.List.{List, [], ◌∷◌}
 use Rattle.snapshot.specs.Lists.{rows, any, all, eq_list}
 use Rattle.snapshot.specs.Words.{arguments_of}
 use Rattle.check_rules.specs.Tests.{text_bound, padded}
-use Rattle.check_rules.specs.Steps.{name_step, crate_step, dependency_step, map_step, module_step, child_step, prelude_step, definition_step, scope_step}
+use Rattle.check_rules.specs.Steps.{name_step, crate_step, dependency_step, map_step, module_step, child_step, prelude_step, definition_step}
+use Rattle.check_rules.specs.Steps.{scope_step}
 use Rattle.check_rules.specs.Steps.{import_step, extern_step, member_step}
 use Rattle.check_rules.specs.Verdict.{arguments_from, record_step, step_at, finish, records, verdict}
 use Rattle.module_tree.specs.rules.Modules.{place_of, module_of, map_of, root_of, own_map, crate_root, or_else, containing}
@@ -14,10 +15,13 @@ use Rattle.module_tree.specs.rules.Privately.{of_root, block_step, module_around
 use Rattle.hir_def.specs.Finds.{first_of, select, or_first}
 use Rattle.hir_def.specs.Items.{definition_of, crate_data, item_of, same_item, ns_of, home_by}
 use Rattle.hir_def.specs.Nameres.{steps_or, steps_to, steps, prelude_of}
-use Rattle.nameable.specs.Seen.{holds, declared_ns, declared_as, declared_in, declaration_in, declaration_of, declaration_holds, both_hold, counts, seen}
-use Rattle.nameable.specs.Paths.{names_in, named, entries_in, variants_in, externs_in, absolutes, entries_over, scopes_from, prelude_entries, firsts, within}
+use Rattle.nameable.specs.Seen.{holds, declared_ns, declared_as, declared_in, declaration_in, declaration_of, declaration_holds, both_hold}
+use Rattle.nameable.specs.Seen.{counts, seen}
+use Rattle.nameable.specs.Paths.{names_in, named, entries_in, variants_in, externs_in, absolutes, entries_over, scopes_from, prelude_entries}
+use Rattle.nameable.specs.Paths.{firsts, within}
 use Rattle.nameable.specs.Paths.{above_or, above, keyword_module, module_named, after, reads, item_in, means, names_of, place_in, route_of}
-use Rattle.nameable.specs.Breadth.{is_met, with_meaning, added, nameless, single, onward, reached, is_item, first_to, arrives, checked_path, variant_after}
+use Rattle.nameable.specs.Breadth.{is_met, with_meaning, added, nameless, single, onward, reached, is_item, first_to, arrives, checked_path}
+use Rattle.nameable.specs.Breadth.{variant_after}
 use Rattle.nameable.specs.Breadth.{by_enum, shorter, shortest_of, shortest, up_to, any_path}
 use Rattle.nameable.proofs.Worked.{head, letter, entry, workspace, over, nested}
 use Rattle.find_path_spec.specs.Report.{call_fault, question_fault}

@@ -146,7 +146,8 @@ module _ (W A C : List ℕ) (k : StillChecked W A C) where
         }
 
     pub asked_each : b ≡ true → (l : Layout) (c : Checked) (e : l ≡ layout_of (length W) C) (f : c ≡ Ok l) (B : List ℕ)
-        → length B ≡ length (take area_limit A) → Judged W B c → (S : List ℕ) → S ≡ reports_to W Q R → AskedEach W A C Q R (B ++ drop area_limit A) S 0
+        → length B ≡ length (take area_limit A) → Judged W B c → (S : List ℕ) → S ≡ reports_to W Q R
+        → AskedEach W A C Q R (B ++ drop area_limit A) S 0
     unfolding batch_fault reports_after
     asked_each h l c e f B n j S p =
         record {

@@ -88,7 +88,8 @@ module _ (W Q R₀ : List ℕ) where
         ∙ ap (reports_of W) (questions_next i Q)
         ∙ reports_next W (questions_of i Q) (question_of (drop (question_size * i) Q))
         ∙ ap (λ (x : Report). reports_of W (questions_of i Q) ++ report_words x)
-        (ap (λ (x : List ℕ). report_of W area_limit (question_of x)) (sym (mid_end (question_size * i) Q)) ∙ ap (report_of W area_limit) (sym e) ∙ sym f)
+        (ap (λ (x : List ℕ). report_of W area_limit (question_of x)) (sym (mid_end (question_size * i) Q))
+        ∙ ap (report_of W area_limit) (sym e) ∙ sym f)
 
     module _ (l : length R ≡ length R₀) (h : report_size * (i + 1) ≤ length R₀) (m : List ℕ) (b : Bool)
         (w : Written r (mid_of (report_size * i) (length R - report_size * i) R) m b) where

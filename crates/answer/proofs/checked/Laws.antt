@@ -74,9 +74,6 @@ module _ (area : ℕ) (q : Query) (fuel : ℕ) where
       (λ v. absurd (omega (arith, e, outside a f v)))
       (λ v. (a, f, ltb-false 2 q.ns (or_false _ _ v), w.some, w.limit))))
 
-pub fault_at : (a n : ℕ) (q : Query) (fuel : ℕ) → a ≡ area_limit → n ≡ call_fault a q fuel → n ≡ call_fault area_limit q fuel
-fault_at a n q fuel e h = h ∙ ap (λ x. call_fault x q fuel) e
-
 -- the work area counts only by being large enough
 pub same_fault : (a b : ℕ) (q : Query) (fuel : ℕ) → area_limit ≤ a → area_limit ≤ b → call_fault a q fuel ≡ call_fault b q fuel
 unfolding call_fault

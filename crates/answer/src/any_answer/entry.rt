@@ -1,29 +1,12 @@
 //! The entry point.
-ghost use Rattle.std.specs.Prelude.{◌≡◌, length};
-ghost use Rattle.snapshot.specs.Limits.{area_limit};
-ghost use Rattle.answer.specs.Answers.{zeros};
-ghost use Rattle.answer.specs.any_answer.Any.{any_report, AnyAnswers};
+ghost use Rattle.answer.specs.any_answer.Any.{AnyAnswers};
 
 use crate::any_answer::AnyReport;
-use crate::any_answer::asked::any_on;
+use crate::any_answer::asked::answered;
 use crate::any_answer::report::refused;
-use crate::area::clear;
-use accept::check::check;
+use crate::area::in_front;
 use find_path_spec::Query;
-use snapshot::ids::{Area, DefinitionId, ModuleId, PathLen};
-use snapshot::refusal::Refusal;
-
-// The answer, in a work area that serves and is cleared.
-// Three steps, as in `answer`; shared, the middle one would be a closure that writes the area, under a contract longer than this body.
-fn any_within(words: &[u32], area: &mut Area, q: Query) -> AnyReport
-    ensures value { result ≡ any_report words.now area_limit q }
-    ensures area_after { area.new ≡ zeros area_limit }
-{
-    let c = check(words, area);
-    let r = any_on(words, area, c, q);
-    clear(area);
-    r
-}
+use snapshot::ids::{DefinitionId, ModuleId, PathLen};
 
 /// Whether any path names the definition, in the namespace, in the module, on the words of a snapshot: a shortest one where it has at most
 /// sixteen names. The work area is left as `find_path` leaves it.
@@ -37,9 +20,6 @@ pub fn any_path(
 ) -> AnyReport
     ensures { AnyAnswers words.now area.old ns definition from area.new result }
 {
-    let Some(front) = area.first_chunk_mut() else {
-        return refused(Refusal::Area);
-    };
     let q = Query {
         ns: ns,
         definition: DefinitionId(definition),
@@ -48,5 +28,5 @@ pub fn any_path(
         options: 0,
         limit: PathLen::LIMIT,
     };
-    any_within(words, front, q)
+    in_front(area, |front| answered(words, front, q)).unwrap_or_else(refused)
 }

@@ -1,15 +1,12 @@
 //! The questions one after the other, on words that are checked once.
 ghost use Rattle.std.specs.Prelude.{◌≡◌, ◌*◌, ◌/◌, ◌≤◌, length};
 ghost use Rattle.reports.specs.Written.{report_size};
-ghost use Rattle.snapshot.specs.Limits.{area_limit};
 ghost use Rattle.snapshot.specs.Sizes.{question_size};
 ghost use Rattle.accept.specs.Post.{Judged};
-ghost use Rattle.answer.specs.Answers.{zeros};
 ghost use Rattle.answer.specs.batch.Batch.{reports_to};
 
-use crate::area::clear;
 use crate::checked::report_on;
-use accept::check::{Refused, check};
+use accept::check::Refused;
 use reports::questions::question::question_of;
 use reports::{ReportWords, write_report};
 use snapshot::ids::Area;
@@ -36,16 +33,4 @@ pub fn report_each(
         let to = ReportWords::COUNT * i;
         write_report(r, &mut reports[to..]);
     }
-}
-
-/// Checks the words, writes the report of each question, and clears the work area.
-// As `answer::find_path_within`, with the loop over questions between check and clear.
-pub fn answer_each(words: &[u32], area: &mut Area, questions: &[u32], reports: &mut [u32])
-    requires { report_size * (length questions.now / question_size) ≤ length reports.old }
-    ensures area_after { area.new ≡ zeros area_limit }
-    ensures reports_after { reports.new ≡ reports_to words.now questions.now reports.old }
-{
-    let c = check(words, area);
-    report_each(words, area, c, questions, reports);
-    clear(area);
 }

@@ -1,23 +1,20 @@
 //! What a caller may be refused for, in order.
 ghost use Rattle.std.specs.Prelude.{◌≡◌, List, ℕ, ◌<◌};
+ghost use Rattle.snapshot.specs.Limits.{area_limit};
 ghost use Rattle.snapshot.specs.Refusals.{fault_number};
 ghost use Rattle.snapshot.specs.Laid.{snap_by};
 ghost use Rattle.find_path_spec.specs.Report.{call_fault, question_fault};
 
 use find_path_spec::Query;
 use hir_def::items::known_kind_of;
-use snapshot::ids::{DefinitionKind, Fuel, Namespace, Options, PathLen, Prefix, WordCount};
+use snapshot::ids::{DefinitionKind, Fuel, Namespace, Options, PathLen, Prefix};
 use snapshot::records::Records;
 use snapshot::refusal::Refusal;
 
-/// The first fault that needs no snapshot: 20 a small work area, 21 too much fuel, 22 a field out of range, 46 a limit out
-/// of range.
-pub fn call_fault(area: usize, q: Query, fuel: usize) -> Result<(), Refusal>
-    ensures { fault_number result ≡ call_fault area q fuel }
+/// The first fault that needs no snapshot, with a work area that serves: 21 too much fuel, 22 a field out of range, 46 a limit out of range.
+pub fn call_fault(q: Query, fuel: usize) -> Result<(), Refusal>
+    ensures { fault_number result ≡ call_fault area_limit q fuel }
 {
-    if area < WordCount::AREA {
-        return Err(Refusal::Area);
-    }
     if Fuel::LIMIT < fuel {
         return Err(Refusal::Fuel);
     }

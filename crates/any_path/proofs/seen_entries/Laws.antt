@@ -1,6 +1,6 @@
 -- Privacy and declarations, case by case.
 use Prim.Native.Nat.{ℕ, zero, suc, ◌<◌}
-use mathlib.Core.Path.{◌≡◌, refl, sym, ◌∙◌}
+use mathlib.Core.Path.{◌≡◌, refl, sym}
 use mathlib.Core.List.{List}
 use mathlib.Core.Bool.{Bool, true, false, ◌&&◌, and_assoc}
 use Rattle.std.specs.Prelude.{None, Some}
@@ -18,10 +18,9 @@ use Rattle.check_records.specs.record_rules.Stands.{counts_in}
 use Rattle.accept.specs.Valid.{Tree, Valid, ScopeFits}
 use Rattle.accept.proofs.Reading.{ranges_read}
 use Rattle.accept.proofs.Valid.{accepted_valid}
-use Rattle.module_tree.specs.rules.Modules.{crate_of, parent_of, block_of}
-use Rattle.module_tree.specs.rules.Privately.{of_root, block_step, module_around}
-use Rattle.module_tree.proofs.Laws.{by_number, Falls}
-use Rattle.module_tree.proofs.Chains.{block_fits}
+use Rattle.module_tree.specs.rules.Modules.{crate_of, parent_of}
+use Rattle.module_tree.specs.rules.Privately.{block_step, module_around}
+use Rattle.module_tree.proofs.Laws.{Falls}
 use Rattle.module_tree.proofs.Reading.{length_modules}
 use Rattle.module_tree.proofs.Ways.{last_end, last_on}
 use Rattle.module_tree.proofs.Privately as privately

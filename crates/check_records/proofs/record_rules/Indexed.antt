@@ -15,10 +15,12 @@ use Rattle.snapshot.specs.Sizes.{child_size, definition_size, scope_size, extern
 use Rattle.snapshot.specs.Records.{Name, name_at}
 use Rattle.snapshot.specs.Layouts.{child_base, definition_base, scope_base, extern_base, no_records, name_head, names_of, module_table, row_words}
 use Rattle.snapshot.specs.declared.layout.Layout.{Layout}
-use Rattle.check_records.specs.chains.Chains.{keys, name_key, record_key, slot_of, Marked, Last, Chained, linked, name_heads, scope_heads, extern_heads}
+use Rattle.check_records.specs.chains.Chains.{keys, name_key, record_key, slot_of, Marked, Last, Chained, linked, name_heads, scope_heads}
+use Rattle.check_records.specs.chains.Chains.{extern_heads}
 use Rattle.check_records.specs.chains.Chains.{child_marks}
 use Rattle.check_records.specs.chains.Chains.{module_marks, marks_end, name_links, scope_links, extern_links}
-use Rattle.check_records.proofs.chains.Laws.{marked_none, marked_kept, chained_kept, chained_none, chained_linked, linked_other, first_of, next_of, Walking}
+use Rattle.check_records.proofs.chains.Laws.{marked_none, marked_kept, chained_kept, chained_none, chained_linked, linked_other, first_of}
+use Rattle.check_records.proofs.chains.Laws.{next_of, Walking}
 use Rattle.check_records.proofs.chains.Laws.{walk_start, walk_hit, walk_miss, walk_end_lem}
 use Rattle.check_rules.specs.Tests.{same_name}
 use Rattle.check_records.specs.record_rules.Stands.{Upto, Indexes}

@@ -15,10 +15,12 @@ use Rattle.snapshot.specs.Sizes.{child_size, definition_size, scope_size, extern
 use Rattle.snapshot.specs.Records.{Map, Definition, name_at, child_at, definition_at}
 use Rattle.snapshot.specs.Layouts.{child_base, definition_base, scope_base, extern_base, name_head, row_words}
 use Rattle.snapshot.specs.declared.layout.Layout.{Layout}
-use Rattle.check_records.specs.chains.Chains.{name_key, record_key, slot_of, Marked, Last, Chained, linked, keys, name_heads, scope_heads, extern_heads}
+use Rattle.check_records.specs.chains.Chains.{name_key, record_key, slot_of, Marked, Last, Chained, linked, keys, name_heads, scope_heads}
+use Rattle.check_records.specs.chains.Chains.{extern_heads}
 use Rattle.check_records.specs.chains.Chains.{child_marks}
 use Rattle.check_records.specs.chains.Chains.{module_marks, marks_end, name_links, scope_links, extern_links}
-use Rattle.check_records.proofs.chains.Laws.{marked_kept, marked_more, chained_kept, chained_linked, linked_other, first_of, next_of, Walking, walk_start, walk_hit}
+use Rattle.check_records.proofs.chains.Laws.{marked_kept, marked_more, chained_kept, chained_linked, linked_other, first_of, next_of, Walking}
+use Rattle.check_records.proofs.chains.Laws.{walk_start, walk_hit}
 use Rattle.check_records.proofs.chains.Laws.{walk_miss, walk_end_lem}
 use Rattle.check_rules.specs.Tests.{Counts, child_defined, definition_defined}
 use Rattle.check_records.specs.record_rules.Stands.{number_of, same_by, counts_in, Indexes, Stands}

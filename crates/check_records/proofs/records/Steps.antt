@@ -25,8 +25,10 @@ use Rattle.check_records.specs.record_rules.Stands.{number_of, same_by, counts_i
 use Rattle.std.specs.Prelude.{Ok}
 use Rattle.check_records.proofs.record_rules.Grows.{one_more, plain_on, quiet_on}
 use Rattle.check_records.proofs.records.Linked.{Linked, module_small}
-use Rattle.check_records.proofs.record_rules.Judged.{Judged, judged, judged_no, judged_passes, counts_same, any_same, and_right, prelude_again, definition_again}
-use Rattle.check_records.proofs.record_rules.Judged.{scope_again, extern_again, scope_definition, import_definition, ns_same, child_same, parent_same, member_same}
+use Rattle.check_records.proofs.record_rules.Judged.{Judged, judged, judged_no, judged_passes, counts_same, any_same, and_right, prelude_again}
+use Rattle.check_records.proofs.record_rules.Judged.{definition_again}
+use Rattle.check_records.proofs.record_rules.Judged.{scope_again, extern_again, scope_definition, import_definition, ns_same, child_same}
+use Rattle.check_records.proofs.record_rules.Judged.{parent_same, member_same}
 
 -- the names of a builtin definition that is in range
 builtin_same : (W A : List ℕ) (names first : ℕ) → (leb names first || is_builtin (name_at W (name_head A first)))

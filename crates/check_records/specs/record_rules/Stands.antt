@@ -11,7 +11,8 @@ use Rattle.snapshot.specs.Layouts.{word_count, child_base, definition_base, scop
 use Rattle.snapshot.specs.Layouts.{own_map}
 use Rattle.snapshot.specs.Layouts.{snap_with, root_table}
 use Rattle.snapshot.specs.declared.layout.Layout.{Layout}
-use Rattle.check_records.specs.chains.Chains.{name_key, record_key, slot_of, Marked, Chained, name_heads, scope_heads, extern_heads, child_marks, module_marks}
+use Rattle.check_records.specs.chains.Chains.{name_key, record_key, slot_of, Marked, Chained, name_heads, scope_heads, extern_heads, child_marks}
+use Rattle.check_records.specs.chains.Chains.{module_marks}
 use Rattle.check_records.specs.chains.Chains.{name_links}
 use Rattle.check_records.specs.chains.Chains.{scope_links, extern_links}
 use Rattle.check_rules.specs.Tests.{Counts, no_map, is_own}

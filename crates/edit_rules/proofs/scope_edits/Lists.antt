@@ -8,8 +8,17 @@ use lib.ListN.{length, get_or, take, drop, length-append, length-take, length-dr
 use lib.Seq.{get_or-take, get_or-drop, get_or-append-add, length-take-le, take_at, drop_at}
 use Rattle.snapshot.specs.Lists.{any}
 use Rattle.snapshot.specs.Records.{Scope}
+use Rattle.accept.specs.Valid.{Each, none, more}
 use Rattle.accept.proofs.Bools.{or_none_lem}
 use Rattle.edit_rules.specs.Entries.{lower, moved_scope, without, inserted, cut}
+
+-- what each element has by two lists of facts
+pub each_two : {A : Type 0} {P Q R : A → Type 0} {xs : List A} → ((x : A) → P x → Q x → R x) → Each P xs → Each Q xs → Each R xs
+each_two f none none = none
+each_two f (more {x = x} p ps) (more q qs) = more (f x p q) (each_two f ps qs)
+
+pub each_both : {A : Type 0} {P Q : A → Type 0} {xs : List A} → Each P xs → Each Q xs → Each (λ x. P x × Q x) xs
+each_both a b = each_two (λ x p q. (p, q)) a b
 
 pub any_append : {A : Type 0} (t : A → Bool) (xs ys : List A) → any t (xs ++ ys) ≡ (any t xs || any t ys)
 unfolding any

@@ -17,9 +17,11 @@ use Rattle.check_rules.specs.Verdict.{accept, records, empty, verdict}
 use Rattle.accept.proofs.Accepted.{by_test}
 use Rattle.accept.proofs.Bools.{and_two}
 use Rattle.edit_rules.specs.Entries.{lower, moved_scope, with_scopes, without, is_entry, entry_place, cut}
-use Rattle.edit_rules.proofs.scope_edits.Lists.{any_append, any_snoc, any_map, any_less, any_middle, without_middle, cut_length, cut_before, cut_after}
+use Rattle.edit_rules.proofs.scope_edits.Lists.{any_append, any_snoc, any_map, any_less, any_middle, without_middle, cut_length, cut_before}
+use Rattle.edit_rules.proofs.scope_edits.Lists.{cut_after}
 use Rattle.edit_rules.proofs.scope_edits.Moved.{Bare, bare_moved, Stays, other_moved, arguments_are}
-use Rattle.edit_rules.proofs.scope_edits.Stepped.{Taking, taking, taking_within, follows_rise, follows_low, follows_parts, scope_kind_lem, scope_taken}
+use Rattle.edit_rules.proofs.scope_edits.Stepped.{Taking, taking, taking_within, follows_rise, follows_low, follows_parts, scope_kind_lem}
+use Rattle.edit_rules.proofs.scope_edits.Stepped.{scope_taken}
 use Rattle.edit_rules.proofs.scope_edits.Folded.{Next_record, records_more, records_done, first_record, run_moved}
 use Rattle.edit_rules.proofs.scope_edits.Split.{Split, split, verdict_records, verdict_is}
 

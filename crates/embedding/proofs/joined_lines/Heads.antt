@@ -1,10 +1,10 @@
 -- No word of a snapshot is the head of a question, so that the printer's questions begin behind it.
 use Prim.Native.Nat.{ℕ, zero, suc, ◌+◌, ◌≤◌, ◌<◌}
-use mathlib.Core.Path.{◌≡◌, refl, sym, ◌∙◌, ap, ap₂}
+use mathlib.Core.Path.{◌≡◌, ◌∙◌, ap, ap₂}
 use mathlib.Core.List.{List}
-use mathlib.Core.Bool.{Bool, true, false, ◌&&◌, not}
+use mathlib.Core.Bool.{true, false, ◌&&◌, not}
 use native.Mathlib.Omega.{arith}
-use borrow.Author.Tests.{eqb-true, eqb-false, ltb-true, ltb-false, leb-true, ne_eqb}
+use borrow.Author.Tests.{eqb-true, eqb-false, ltb-true, ltb-false, leb-true, ne_eqb, not-true}
 use lib.Dec.{eqb, ltb, leb}
 use lib.ListN.{length, get_or}
 use Rattle.snapshot.specs.Limits.{word_limit}
@@ -28,16 +28,12 @@ not_head k n h =
     let c : eqb k 15 ≡ false = ne_eqb k 15 (λ e. omega (arith, e, h)) in
     rw (a, b, c)
 
-not_true : (b : Bool) → not b ≡ true → b ≡ false
-not_true true e = sym e
-not_true false e = refl
-
 follows_free : (last k : ℕ) → follows last k ≡ true → is_head k ≡ false
 follows_free last k e =
     let a = and_left (leb 1 k && leb k 13 && not (eqb k 12)) _ e in
     let b = and_right (leb 1 k && leb k 13) (not (eqb k 12)) a in
     let c = and_left (leb 1 k && leb k 13) (not (eqb k 12)) a in
-    not_head k (eqb-false k 12 (not_true (eqb k 12) b)) (leb-true k 13 (and_right (leb 1 k) (leb k 13) c))
+    not_head k (eqb-false k 12 (not-true (eqb k 12) b)) (leb-true k 13 (and_right (leb 1 k) (leb k 13) c))
 
 arguments_free : (W : List ℕ) (n at i : ℕ) → arguments_from W at n ≡ true → at ≤ i → i < at + n → Free W i
 unfolding arguments_from

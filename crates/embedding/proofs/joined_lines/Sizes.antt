@@ -154,7 +154,7 @@ tree_after k (m ∷ ms) ns xs =
     let q = length-append (each_words (words_within k) xs) (tree_words (k + 1) (ms ++ ns) xs) in
     omega (arith, p, a, q)
 
-shifted : (n a b : ℕ) → eqb (n + a) (n + b) ≡ eqb a b
+pub shifted : (n a b : ℕ) → eqb (n + a) (n + b) ≡ eqb a b
 shifted n a b =
     by_test (eqb a b)
     (λ h. eq-eqb (n + a) (n + b) (ap (λ j. n + j) (eqb-true a b h)) ∙ sym h)

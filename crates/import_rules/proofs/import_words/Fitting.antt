@@ -14,6 +14,7 @@ use Rattle.accept.specs.Valid.{Each, none, more, ScopeFits, MemberFits, MacroOnl
 use Rattle.accept.proofs.Accepted.{by_test}
 use Rattle.accept.proofs.Bools.{and_two}
 use Rattle.accept.proofs.Valid.{accepted_valid}
+use Rattle.edit_rules.proofs.scope_edits.Lists.{each_both}
 use Rattle.hir_def.specs.Finds.{select}
 use Rattle.hir_def.proofs.Found.{each_select}
 use Rattle.find_path_spec.proofs.laws.Crates.{each_append}
@@ -22,11 +23,7 @@ use Rattle.import_rules.specs.Collect.{member_import}
 use Rattle.import_rules.specs.Collect.{entry_import, imports_of, imports_in, imports_over, collected}
 use Rattle.import_rules.specs.import_words.Words.{Fits}
 
--- lists
-
-each_both : {A : Type 0} {P Q : A → Type 0} {xs : List A} → Each P xs → Each Q xs → Each (λ x. P x × Q x) xs
-each_both none none = none
-each_both (more p ps) (more q qs) = more (p, q) (each_both ps qs)
+-- lists: what every element has, every element of them sorted has
 
 each_insert : {A : Type 0} {P : A → Type 0} (before : A → A → Bool) (x : A) {ys : List A} → P x → Each P ys → Each P (insert_by before x ys)
 unfolding insert_by
@@ -34,7 +31,7 @@ each_insert before x p none = more p none
 each_insert before x p (more {x = y} q qs) =
     by_test (before x y) (λ t. rw (t, insert_by) (more p (more q qs))) (λ t. rw (t, insert_by) (more q (each_insert before x p qs)))
 
-each_sort : {A : Type 0} {P : A → Type 0} (before : A → A → Bool) {ys xs : List A} → Each P ys → Each P xs → Each P (sort_into before ys xs)
+pub each_sort : {A : Type 0} {P : A → Type 0} (before : A → A → Bool) {ys xs : List A} → Each P ys → Each P xs → Each P (sort_into before ys xs)
 unfolding sort_into
 each_sort before r none = r
 each_sort before {ys = ys} r (more {x = x} p ps) = each_sort before {ys = insert_by before x ys} (each_insert before x p r) ps

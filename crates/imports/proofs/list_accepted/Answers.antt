@@ -1,6 +1,6 @@
 use mathlib.Core.Bool.{false≢true}
 use native.Mathlib.Omega.{arith}
-use Rattle.imports.specs.lists.Writes.{written}
+use Rattle.answer.specs.counts.Targets.{written}
 use Rattle.imports.proofs.Laws.{walked_threaded, list_small, list_short, list_written, list_unknown}
 use Rattle.imports.proofs.list_accepted.Goals as goal
 

@@ -8,12 +8,9 @@ use borrow.Author.Tests.{eq-eqb, ne_eqb, leb-true, leb-false}
 use lib.Dec.{eqb, leb}
 use Rattle.snapshot.specs.Lists.{rows}
 use Rattle.check_records.specs.chains.Chains.{Last}
-use Rattle.accept.specs.Valid.{Each, more}
 use Rattle.accept.proofs.Accepted.{by_test}
 use Rattle.hir_def.specs.Finds.{select}
 use Rattle.find_path_spec.proofs.laws.Walks.{select_hit, select_miss}
-use Rattle.import_rules.specs.Collect.{insert_by, sort_into}
-use Rattle.imports.proofs.order.Sorts.{insert_yes, insert_no}
 use Rattle.imports.specs.lists.Threads.{keyed, rest}
 
 module _ {A : Type 0} (key : ℕ → ℕ) (b : ℕ) (f : ℕ → A) where
@@ -90,18 +87,3 @@ select_both {A} p q (x ∷ xs) =
     (λ u. select_hit p x (select q xs) u ∙ ap (λ r. x ∷ r) rest ∙ sym (select_hit both x xs (rw (u, t))))
     (λ u. select_miss p x (select q xs) u ∙ rest ∙ sym (select_miss both x xs (rw u))))
     (λ t. ap (select p) (select_miss q x xs t) ∙ rest ∙ sym (select_miss both x xs (rw t (and-false (p x)))))
-
--- what every element of a list has, every element of it sorted has
-
-each_insert : {A : Type 0} {P : A → Type 0} (before : A → A → Bool) (x : A) {ys : List A} → P x → Each P ys → Each P (insert_by before x ys)
-unfolding insert_by
-each_insert before x p Each.none = more p Each.none
-each_insert {A} {P} before x p (more {x = y} {xs = ys} q h) =
-    by_test (before x y)
-    (λ t. rw (insert_yes before x y ys t) (more p (more q h)))
-    (λ t. rw (insert_no before x y ys t) (more q (each_insert before x p h)))
-
-pub each_sort : {A : Type 0} {P : A → Type 0} (before : A → A → Bool) {ys xs : List A} → Each P ys → Each P xs → Each P (sort_into before ys xs)
-unfolding sort_into
-each_sort before h Each.none = h
-each_sort before {ys = ys} h (more {x = x} p g) = each_sort before {ys = insert_by before x ys} (each_insert before x p h) g

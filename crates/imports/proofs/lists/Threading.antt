@@ -33,7 +33,8 @@ use Rattle.imports.proofs.order.Orders.{entry_order}
 use Rattle.imports.proofs.order.Sorts.{sorted_select}
 use Rattle.imports.specs.lists.Threads.{member_heads_base, member_links_base, keyed, is_public, public_in, entry_of, member_of, Gathered, Threads}
 use Rattle.imports.specs.lists.Threads.{Threaded}
-use Rattle.imports.proofs.lists.Keyed.{select_both, each_sort, keyed_rows}
+use Rattle.import_rules.proofs.import_words.Fitting.{each_sort}
+use Rattle.imports.proofs.lists.Keyed.{select_both, keyed_rows}
 
 -- gathering: n of the first k of so many records were taken
 pub record Gathering (W A : List ℕ) (base count : ℕ) (B : List ℕ) (k n : ℕ) : Type 0 where
@@ -178,7 +179,8 @@ threaded_keyed {W} {A} {l} {n} t m =
 -- all of it, from the checked words
 
 -- the words of the tables, and those of the entries
-pub kept_ready : {W A B : List ℕ} {l : Layout} → Ready W A l → length B ≡ length A → ((i : ℕ) → i < entries_room → get_or B i 0 ≡ get_or A i 0) → Ready W B l
+pub kept_ready : {W A B : List ℕ} {l : Layout} → Ready W A l → length B ≡ length A → ((i : ℕ) → i < entries_room → get_or B i 0 ≡ get_or A i 0)
+    → Ready W B l
 kept_ready {W} {A} {B} {l} r size low = record { reads = reads_stay W A B l r.reads (λ i a b. low i b); size = size ∙ r.size }
 
 -- the links of the members' threads lie in the area
@@ -226,7 +228,8 @@ module _ {W A B C D : List ℕ} {l : Layout} {n : ℕ} (r : Ready W A l) (g : Ga
     high_e i h = let f = g.few in threads_high te i (omega arith) (omega arith)
 
     pub members_required : ((length E ≡ 16384) × (member_links_base l + l.members ≤ 16384) × (word_count l ≤ 16384))
-        × (((b : ℕ) → b < l.definitions → get_or E (member_heads_base l + b) 0 ≡ 0) × ((j : ℕ) → j < l.members → (member_of W l j).parent < l.definitions))
+        × (((b : ℕ) → b < l.definitions → get_or E (member_heads_base l + b) 0 ≡ 0)
+        × ((j : ℕ) → j < l.members → (member_of W l j).parent < l.definitions))
     members_required =
         let q = scopes_few r in (
           (te.size ∙ ready_d.size, q.1, q.2),
@@ -236,7 +239,8 @@ module _ {W A B C D : List ℕ} {l : Layout} {n : ℕ} (r : Ready W A l) (g : Ga
           ),
         )
 
-    pub threaded_all : {F : List ℕ} → Threads l.definitions (member_heads_base l) (member_links_base l) (λ j. (member_of W l j).parent) l.members E F → Threaded W F l n
+    pub threaded_all : {F : List ℕ} → Threads l.definitions (member_heads_base l) (member_links_base l)
+        (λ j. (member_of W l j).parent) l.members E F → Threaded W F l n
         × ((i : ℕ) → i < entries_room → get_or F i 0 ≡ get_or A i 0)
     threaded_all {F} tm =
         let q = entries_few in
@@ -251,7 +255,8 @@ module _ {W A B C D : List ℕ} {l : Layout} {n : ℕ} (r : Ready W A l) (g : Ga
                 rows_ext _ _ n (λ i h. ap (scope_at W) (low (entries_room + i) (omega arith))) ∙ list_d
                 ∙ ap public_in (sym (snap_stays W D F l ready_d.reads.tables (λ i a b. low i (omega arith))));
             entries =
-                chained_kept E F heads_room spare_room _ _ n te.chained (λ b h. mid (heads_room + b) (omega arith)) (λ i h. mid (spare_room + i) (omega arith))
+                chained_kept E F heads_room spare_room _ _ n te.chained (λ b h. mid (heads_room + b) (omega arith))
+                (λ i h. mid (spare_room + i) (omega arith))
                 (λ i h. ap (λ x. (scope_at W x).owner) (low (entries_room + (n - 1 - i)) (omega arith)));
             members = tm.chained;
           },

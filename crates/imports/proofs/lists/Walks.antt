@@ -73,7 +73,8 @@ threaded_kept {W} {A} {B} {l} {n} t size below =
       few = t.few;
       list = rows_ext _ _ n (λ i h. ap (scope_at W) (below (entries_room + i) (omega arith))) ∙ t.list ∙ ap public_in (sym q);
       entries =
-          chained_kept A B heads_room spare_room _ _ n t.entries (λ b h. below (heads_room + b) (omega arith)) (λ i h. below (spare_room + i) (omega arith))
+          chained_kept A B heads_room spare_room _ _ n t.entries (λ b h. below (heads_room + b) (omega arith))
+          (λ i h. below (spare_room + i) (omega arith))
           (λ i h. ap (λ x. (scope_at W x).owner) (below (entries_room + (n - 1 - i)) (omega arith)));
       members =
           chained_kept A B (member_heads_base l) (member_links_base l) _ _ l.members t.members (λ b h. below (member_heads_base l + b) (omega arith))
@@ -133,7 +134,8 @@ module _ {W A : List ℕ} {l : Layout} {n at : ℕ} (th : Threaded W A l n) (wit
   pub thread_word : {entry : ℕ} → entry ≡ get_or A (entries_room + (n - at)) 0 → scope_at W entry ≡ entry_of W A n (at - 1)
   thread_word e = let q : n - at ≡ n - 1 - (at - 1) = omega arith in ap (scope_at W) (e ∙ ap (λ x. get_or A (entries_room + x) 0) q)
 
-  pub thread_next : {next : ℕ} → next ≡ get_or A (spare_room + (at - 1)) 0 → (rest_at W A n at ≡ entry_of W A n (at - 1) ∷ rest_at W A n next) × (next < at)
+  pub thread_next : {next : ℕ} → next ≡ get_or A (spare_room + (at - 1)) 0 → (rest_at W A n at ≡ entry_of W A n (at - 1) ∷ rest_at W A n next)
+      × (next < at)
   thread_next {next} e =
       let last : Last (owner_of W A n) (owner_of W A n (at - 1)) (at - 1) next = rw e (th.entries.next (at - 1) (omega arith)) in
       let h = last.within in
@@ -182,7 +184,8 @@ module _ {W A : List ℕ} {l : Layout} {n t : ℕ} (th : Threaded W A l n) where
           let b = g.high in
           let c = p.grows in
           let z = small_n in
-          let d : next ≡ get_or A (spare_room + (at - 1)) 0 = q ∙ p.below (spare_room + (at - 1)) (omega arith) ∙ g.below (spare_room + (at - 1)) (omega arith) in
+          let d : next ≡ get_or A (spare_room + (at - 1)) 0 = q ∙ p.below (spare_room + (at - 1)) (omega arith)
+          ∙ g.below (spare_room + (at - 1)) (omega arith) in
           let h = (thread_next th w some d).1 in
           let more : rest_at W A n at ≡ scope_at W entry ∷ rest_at W A n next = (thread_next th w some d).0
           ∙ ap (λ x. x ∷ rest_at W A n next) (sym (entry_same e)) in
@@ -191,7 +194,8 @@ module _ {W A : List ℕ} {l : Layout} {n t : ℕ} (th : Threaded W A l n) where
           record {
             within = omega arith;
             left =
-                ap (piled (snap_of W A l) (rest_at W A n next)) one ∙ piled_joined (snap_of W A l) (scope_at W entry) (rest_at W A n next) (pile_at B l u)
+                ap (piled (snap_of W A l) (rest_at W A n next)) one
+                ∙ piled_joined (snap_of W A l) (scope_at W entry) (rest_at W A n next) (pile_at B l u)
                 ∙ ap (λ r. piled (snap_of W A l) r (pile_at B l u)) (sym more) ∙ g.left;
             room =
                 let x = g.room in
@@ -314,7 +318,8 @@ module _ {W A : List ℕ} {l : Layout} {n k : ℕ} (t : ℕ) (w : Walking W A l 
         };
         same =
             ap (λ x. order_at A l k ++ x)
-            (sym (ap₂ (λ a b. visits a s (seen_at A l k) b) turns pile_top ∙ visits_old (turns_at W A l k t) s (seen_at A l k) m (pile_at A l t) seen));
+            (sym (ap₂ (λ a b. visits a s (seen_at A l k) b) turns pile_top
+            ∙ visits_old (turns_at W A l k t) s (seen_at A l k) m (pile_at A l t) seen));
         falls = omega arith;
         size = refl;
         below = λ i p. refl;
@@ -439,7 +444,8 @@ module _ {W A : List ℕ} {l : Layout} {n k : ℕ} (t : ℕ) (w : Walking W A l 
                   (let a = length_down (λ i. get_or B (pile_base l + i) 0) u in omega arith) q)
                   ∙ ap₂ (λ a b. visits (turns_at W A l k t) a (seen_at B l (k + 1)) b) snap_b pile_b
                   ∙ ap (λ a. visits (turns_at W A l k t) s a (piled s (entries_of s m) (pile_at A l t))) seen_b)
-                  ∙ append_assoc (order_at A l k) (m ∷ []) (visits (turns_at W A l k t) s (m ∷ seen_at A l k) (piled s (entries_of s m) (pile_at A l t)))
+                  ∙ append_assoc (order_at A l k) (m ∷ [])
+                  (visits (turns_at W A l k t) s (m ∷ seen_at A l k) (piled s (entries_of s m) (pile_at A l t)))
                   ∙ ap (λ x. order_at A l k ++ x)
                   (sym (ap₂ (λ a b. visits a s (seen_at A l k) b) turns pile_top ∙ visits_new (turns_at W A l k t) s (seen_at A l k) m
                   (pile_at A l t) unseen));

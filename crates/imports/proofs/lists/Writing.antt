@@ -4,11 +4,10 @@ use mathlib.Core.Path.{◌≡◌, refl, sym, ◌∙◌, ap, ap₂, subst}
 use mathlib.Core.List.{List, [], ◌∷◌, ◌++◌, map, append_assoc}
 use mathlib.Core.Bool.{Bool, true, false, ◌&&◌}
 use native.Mathlib.Omega.{arith}
-use native.Mathlib.Nat.{add-zero}
 use borrow.Author.Tests.{eq-eqb, ne_eqb}
 use lib.Dec.{eqb}
 use lib.ListN.{length, get_or, take, drop, set, length-append, length-map}
-use lib.Seq.{sets, length-sets, sets-eq}
+use lib.Seq.{sets-eq}
 use Rattle.snapshot.specs.Sizes.{import_size, member_size, scope_size}
 use Rattle.snapshot.specs.Lists.{rows}
 use Rattle.snapshot.specs.Records.{Snapshot, Scope, Import, Member, scope_at, member_at}
@@ -22,41 +21,20 @@ use Rattle.accept.proofs.Valid.{accepted_valid}
 use Rattle.accept.proofs.Reading.{member_read}
 use Rattle.hir_def.specs.Finds.{select}
 use Rattle.find_path_spec.proofs.laws.Walks.{select_short}
-use Rattle.import_rules.specs.Collect.{entry_before, is_public_in, entries_of, is_member_of, member_ns, member_import, entry_import, imports_of, imports_in}
+use Rattle.import_rules.specs.Collect.{entry_before, is_public_in, entries_of, is_member_of, member_ns, member_import, entry_import, imports_of}
+use Rattle.import_rules.specs.Collect.{imports_in}
 use Rattle.import_rules.specs.Collect.{imports_over, words_of}
+use Rattle.answer.specs.counts.Targets.{written}
+use Rattle.answer.proofs.counts.Targets.{written_append, written_length, written_none}
 use Rattle.imports.specs.order.Rooms.{entries_room, heads_room, spare_room}
 use Rattle.imports.specs.order.Lists.{Ready}
 use Rattle.imports.proofs.order.Visits.{length_sort}
 use Rattle.import_rules.proofs.import_words.Taken.{words_length, words_append}
 use Rattle.imports.specs.lists.Threads.{member_heads_base, member_links_base, rest, member_of, Threaded}
 use Rattle.imports.specs.lists.Walks.{order_base, order_at}
-use Rattle.imports.specs.lists.Writes.{new_import, Bounded, written, Space, Wrote, is_kept, kept_imports, members_of, Listed}
+use Rattle.imports.specs.lists.Writes.{new_import, Bounded, Space, Wrote, is_kept, kept_imports, members_of, Listed}
 use Rattle.imports.proofs.lists.Keyed.{rest_first, rest_next, rest_none, keyed_rows, select_both}
 use Rattle.imports.proofs.lists.Walks.{rest_at, owner_of, thread_of, thread_fits, thread_word, thread_next}
-
--- words stored from a place on
-
-sets_append : (T xs ys : List ℕ) (i : ℕ) → sets T i (xs ++ ys) ≡ sets (sets T i xs) (i + length xs) ys
-sets_append T [] ys i = ap (λ k. sets T k ys) (sym (add-zero i))
-sets_append T (x ∷ xs) ys i =
-    let e : suc i + length xs ≡ i + suc (length xs) = omega arith in
-    sets_append (set T i x) xs ys (suc i) ∙ ap (λ k. sets (sets (set T i x) (suc i) xs) k ys) e
-
-written_append : (write : Bool) (at : ℕ) (xs ys T : List ℕ) → written write (at + length xs) ys (written write at xs T)
-    ≡ written write at (xs ++ ys) T
-unfolding written
-written_append true at xs ys T = sym (sets_append T xs ys at)
-written_append false at xs ys T = refl
-
-pub written_length : (write : Bool) (at : ℕ) (ws T : List ℕ) → length (written write at ws T) ≡ length T
-unfolding written
-written_length true at ws T = length-sets T at ws
-written_length false at ws T = refl
-
-written_none : (write : Bool) (at : ℕ) (T : List ℕ) → written write at [] T ≡ T
-unfolding written
-written_none true at T = refl
-written_none false at T = refl
 
 -- two lists one after the other
 
@@ -237,7 +215,8 @@ module _ {W A : List ℕ} {l : Layout} {c : ℕ} {e : Scope} (h : Listed W A l c
       let q = h.ready.reads.tables.limited in
       record { owner = omega arith; ns = f.ns; definition = omega arith; name = omega arith; container = omega arith; bits = f.bits }
 
-  pub kept_first : {d k : ℕ} → d ≡ e.definition → k ≡ get_or A (member_heads_base l + d) 0 → (kept_at W l c e k ≡ members_of (snap_of W A l) c e) × (k ≤ l.members)
+  pub kept_first : {d k : ℕ} → d ≡ e.definition → k ≡ get_or A (member_heads_base l + d) 0 → (kept_at W l c e k ≡ members_of (snap_of W A l) c e)
+      × (k ≤ l.members)
   unfolding kept_imports members_of
   kept_first {d} {k} ed ek =
       let f = h.fits.definition in
@@ -335,7 +314,10 @@ over_first W A l c order = rows_whole (imports_over (snap_of W A l) c) (λ j. ge
 pub over_next : (W A : List ℕ) (l : Layout) (c order i : ℕ) {m : ℕ} → i < order → m ≡ get_or A (order_base l + i) 0
     → Parts (imports_from W A l c order i) (imports_in (snap_of W A l) c (entries_of (snap_of W A l) m)) (imports_from W A l c order (i + 1))
 unfolding imports_over
-over_next W A l c order i h e = rw e (record { split = ap (imports_over (snap_of W A l) c) (rows_next (λ j. get_or A (order_base l + j) 0) i order h) })
+over_next W A l c order i h e = rw e (record {
+  split = ap (imports_over (snap_of W A l) c)
+      (rows_next (λ j. get_or A (order_base l + j) 0) i order h);
+})
 
 pub over_end : (W A : List ℕ) (l : Layout) (c order i : ℕ) → order ≤ i → imports_from W A l c order i ≡ []
 unfolding imports_over

@@ -24,7 +24,8 @@ use Rattle.imports.proofs.order.Sorts.{merge_second, merge_first, merge_none, so
 
 -- copying
 
-pub copied_all : (A B : List ℕ) (from m n : ℕ) → m ≡ n → length B ≡ length A → CopiedTo A B from spare_room m → SameBelow A B spare_room → Copied A B from n
+pub copied_all : (A B : List ℕ) (from m n : ℕ) → m ≡ n → length B ≡ length A → CopiedTo A B from spare_room m → SameBelow A B spare_room
+    → Copied A B from n
 copied_all A B from m n p e c b =
     record {
       size = e;
@@ -69,7 +70,8 @@ pub record Merging (W : List ℕ) (before : Scope → Scope → Bool) (whole : L
   pub second : j ≤ n
   pub frame : Runs A B from (from + m + n)
   pub left : whole ≡ entries_at W B from (i + j)
-      ++ merge_by before (rows (λ k. scope_at W (get_or B (spare_room + k) 0)) i (m - i)) (rows (λ k. scope_at W (get_or B (from + m + k) 0)) j (n - j))
+      ++ merge_by before (rows (λ k. scope_at W (get_or B (spare_room + k) 0)) i (m - i))
+      (rows (λ k. scope_at W (get_or B (from + m + k) 0)) j (n - j))
 
 pub runs_none : (A : List ℕ) (from to : ℕ) → Runs A A from to
 runs_none A from to = record { size = refl; below = λ i h. refl; above = λ i h g. refl }
@@ -118,7 +120,8 @@ module _ (W : List ℕ) (before : Scope → Scope → Bool) (whole : List Scope)
         (λ q p u. ap (scope_at W) (sym (get_or-set_other B (from + i + j) (spare_room + q) v 0 (λ e. omega arith))))
 
     seconds_stay : (v k c : ℕ) → j ≤ k → rows (seconds B) k c ≡ rows (seconds (stored v)) k c
-    seconds_stay v k c h = rows_from _ _ k c (λ q p u. ap (scope_at W) (sym (get_or-set_other B (from + i + j) (from + m + q) v 0 (λ e. omega arith))))
+    seconds_stay v k c h = rows_from _ _ k c (λ q p u. ap (scope_at W)
+        (sym (get_or-set_other B (from + i + j) (from + m + q) v 0 (λ e. omega arith))))
 
     extend : (v : ℕ) (rest : List Scope) (more : ℕ) → more ≡ i + j + 1 → whole ≡ entries_at W B from (i + j) ++ (scope_at W v ∷ rest)
         → whole ≡ entries_at W (stored v) from more ++ rest
@@ -252,7 +255,8 @@ merged {W} {A} {B} {C} {l} {from} {m} {n} {i} {j} r fits h c g =
 
 -- sorting
 
-few : (n : ℕ) → n < 2 → (W A : List ℕ) (before : Scope → Scope → Bool) (from : ℕ) → entries_at W A from n ≡ sort_into before [] (entries_at W A from n)
+few : (n : ℕ) → n < 2 → (W A : List ℕ) (before : Scope → Scope → Bool) (from : ℕ)
+    → entries_at W A from n ≡ sort_into before [] (entries_at W A from n)
 unfolding rows sort_into insert_by
 few zero h W A before from = refl
 few (suc zero) h W A before from = refl
@@ -262,7 +266,8 @@ pub sorts_few : (W A : List ℕ) (l : Layout) (from n : ℕ) → n < 2 → Sorts
 sorts_few W A l from n h = record { frame = runs_none A from (from + n); same = few n h W A (order_of W A l) from }
 
 -- a first run sorted, then a second, then both merged
-pub sorts_halves : {W A B C D : List ℕ} {l : Layout} {from m n : ℕ} (total : ℕ) → Ready W A l → entries_room ≤ from → from + m + n ≤ heads_room → m + n ≡ total
+pub sorts_halves : {W A B C D : List ℕ} {l : Layout} {from m n : ℕ} (total : ℕ) → Ready W A l → entries_room ≤ from → from + m + n ≤ heads_room
+    → m + n ≡ total
     → Sorts W A l B from m → Sorts W B l C (from + m) n → Merges W C l D from m n → Sorts W A l D from total
 sorts_halves {W} {A} {B} {C} {D} {l} {from} {m} {n} total r high fits q s₁ s₂ g =
     let f₁ = s₁.frame in

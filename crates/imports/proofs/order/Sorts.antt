@@ -2,6 +2,8 @@
 use mathlib.Core.Path.{◌≡◌, refl, sym, ◌∙◌, ap}
 use mathlib.Core.List.{List, [], ◌∷◌, ◌++◌}
 use mathlib.Core.Bool.{Bool, true, false, ◌&&◌, not, true≢false}
+use borrow.Author.Tests.{not-true}
+use Rattle.check_records.proofs.record_rules.Judged.{and_left, and_right}
 use Rattle.snapshot.specs.Lists.{all}
 use Rattle.accept.proofs.Accepted.{by_test}
 use Rattle.hir_def.specs.Finds.{select}
@@ -80,7 +82,8 @@ module _ {A : Type 0} (before : A → A → Bool) where
   sort_append us [] ys = refl
   sort_append us (x ∷ xs) ys = sort_append (insert_by before x us) xs ys
 
-  pub sorted_merge : Order before → (xs ys : List A) → merge_by before (sort_into before [] xs) (sort_into before [] ys) ≡ sort_into before [] (xs ++ ys)
+  pub sorted_merge : Order before → (xs ys : List A)
+      → merge_by before (sort_into before [] xs) (sort_into before [] ys) ≡ sort_into before [] (xs ++ ys)
   sorted_merge o xs ys =
       sym (sort_append [] xs ys ∙ ap (λ r. sort_into before r ys) (sym (merge_none (sort_into before [] xs)))
       ∙ sort_merge o (sort_into before [] xs) [] ys)
@@ -90,25 +93,13 @@ ordered : {A : Type 0} → (A → A → Bool) → List A → Bool
 ordered before [] = true
 ordered before (y ∷ ys) = all (λ z. not (before z y)) ys && ordered before ys
 
-and_first : (a b : Bool) → (a && b) ≡ true → a ≡ true
-and_first true b h = refl
-and_first false b h = h
-
-and_second : (a b : Bool) → (a && b) ≡ true → b ≡ true
-and_second true b h = h
-and_second false b h = absurd (true≢false (sym h))
-
 and_true : (a b : Bool) → a ≡ true → b ≡ true → (a && b) ≡ true
 and_true a b p q = rw (p, q)
-
-not_true : (a : Bool) → not a ≡ true → a ≡ false
-not_true true h = sym h
-not_true false h = refl
 
 all_map : {A : Type 0} (p q : A → Bool) (ys : List A) → ((z : A) → p z ≡ true → q z ≡ true) → all p ys ≡ true → all q ys ≡ true
 unfolding all
 all_map p q [] f h = refl
-all_map p q (y ∷ ys) f h = and_true (q y) (all q ys) (f y (and_first (p y) (all p ys) h)) (all_map p q ys f (and_second (p y) (all p ys) h))
+all_map p q (y ∷ ys) f h = and_true (q y) (all q ys) (f y (and_left (p y) (all p ys) h)) (all_map p q ys f (and_right (p y) (all p ys) h))
 
 module _ {A : Type 0} (before : A → A → Bool) (o : Order before) where
   all_insert : (q : A → Bool) (x : A) (ys : List A) → q x ≡ true → all q ys ≡ true → all q (insert_by before x ys) ≡ true
@@ -117,8 +108,8 @@ module _ {A : Type 0} (before : A → A → Bool) (o : Order before) where
   all_insert q x (y ∷ ys) p h =
       by_test (before x y)
       (λ t. ap (all q) (insert_yes before x y ys t) ∙ and_true (q x) (all q (y ∷ ys)) p h)
-      (λ t. ap (all q) (insert_no before x y ys t) ∙ and_true (q y) (all q (insert_by before x ys)) (and_first (q y) (all q ys) h)
-      (all_insert q x ys p (and_second (q y) (all q ys) h)))
+      (λ t. ap (all q) (insert_no before x y ys t) ∙ and_true (q y) (all q (insert_by before x ys)) (and_left (q y) (all q ys) h)
+      (all_insert q x ys p (and_right (q y) (all q ys) h)))
 
   -- what stands before the first of an ordered list stands before all of it
   before_all : (x y : A) (ys : List A) → before x y ≡ true → ordered before (y ∷ ys) ≡ true → all (before x) (y ∷ ys) ≡ true
@@ -126,8 +117,8 @@ module _ {A : Type 0} (before : A → A → Bool) (o : Order before) where
   before_all x y ys h g =
       and_true (before x y) (all (before x) ys) h
       (all_map (λ z. not (before z y)) (before x) ys
-      (λ z p. by_test (before x z) (λ t. t) (λ t. absurd (true≢false (sym (o.between x z y h t) ∙ not_true (before z y) p))))
-      (and_first (all (λ z. not (before z y)) ys) (ordered before ys) g))
+      (λ z p. by_test (before x z) (λ t. t) (λ t. absurd (true≢false (sym (o.between x z y h t) ∙ not-true (before z y) p))))
+      (and_left (all (λ z. not (before z y)) ys) (ordered before ys) g))
 
   ordered_insert : (x : A) (ys : List A) → ordered before ys ≡ true → ordered before (insert_by before x ys) ≡ true
   unfolding all insert_by ordered
@@ -140,29 +131,29 @@ module _ {A : Type 0} (before : A → A → Bool) (o : Order before) where
       (λ z p. by_test (before z x) (λ u. absurd (true≢false (sym (o.through x z x p u) ∙ o.never x))) (λ u. ap not u)) (before_all x y ys t h)) h)
       (λ t. ap (ordered before) (insert_no before x y ys t)
       ∙ and_true (all (λ z. not (before z y)) (insert_by before x ys)) (ordered before (insert_by before x ys))
-      (all_insert (λ z. not (before z y)) x ys (ap not t) (and_first (all (λ z. not (before z y)) ys) (ordered before ys) h))
-      (ordered_insert x ys (and_second (all (λ z. not (before z y)) ys) (ordered before ys) h)))
+      (all_insert (λ z. not (before z y)) x ys (ap not t) (and_left (all (λ z. not (before z y)) ys) (ordered before ys) h))
+      (ordered_insert x ys (and_right (all (λ z. not (before z y)) ys) (ordered before ys) h)))
 
   insert_front : (x : A) (ys : List A) → all (before x) ys ≡ true → insert_by before x ys ≡ x ∷ ys
   unfolding all insert_by
   insert_front x [] h = refl
-  insert_front x (y ∷ ys) h = insert_yes before x y ys (and_first (before x y) (all (before x) ys) h)
+  insert_front x (y ∷ ys) h = insert_yes before x y ys (and_left (before x y) (all (before x) ys) h)
 
   module _ (p : A → Bool) where
     all_select : (q : A → Bool) (ys : List A) → all q ys ≡ true → all q (select p ys) ≡ true
     unfolding all select
     all_select q [] h = refl
     all_select q (y ∷ ys) h =
-        let rest = all_select q ys (and_second (q y) (all q ys) h) in
+        let rest = all_select q ys (and_right (q y) (all q ys) h) in
         by_test (p y)
-        (λ t. ap (all q) (select_hit p y ys t) ∙ and_true (q y) (all q (select p ys)) (and_first (q y) (all q ys) h) rest)
+        (λ t. ap (all q) (select_hit p y ys t) ∙ and_true (q y) (all q (select p ys)) (and_left (q y) (all q ys) h) rest)
         (λ t. ap (all q) (select_miss p y ys t) ∙ rest)
 
     select_in : (x : A) (ys : List A) → p x ≡ true → ordered before ys ≡ true → select p (insert_by before x ys) ≡ insert_by before x (select p ys)
     unfolding insert_by select all ordered
     select_in x [] h g = select_hit p x [] h
     select_in x (y ∷ ys) h g =
-        let rest = select_in x ys h (and_second (all (λ z. not (before z y)) ys) (ordered before ys) g) in
+        let rest = select_in x ys h (and_right (all (λ z. not (before z y)) ys) (ordered before ys) g) in
         by_test (before x y)
         (λ t. ap (select p) (insert_yes before x y ys t) ∙ select_hit p x (y ∷ ys) h
         ∙ sym (insert_front x (select p (y ∷ ys)) (all_select (before x) (y ∷ ys) (before_all x y ys t g))))
@@ -188,8 +179,10 @@ module _ {A : Type 0} (before : A → A → Bool) (o : Order before) where
     sort_select ys (x ∷ xs) h =
         let rest = sort_select (insert_by before x ys) xs (ordered_insert x ys h) in
         by_test (p x)
-        (λ t. rest ∙ ap (λ r. sort_into before r (select p xs)) (select_in x ys t h) ∙ ap (sort_into before (select p ys)) (sym (select_hit p x xs t)))
-        (λ t. rest ∙ ap (λ r. sort_into before r (select p xs)) (select_out x ys t) ∙ ap (sort_into before (select p ys)) (sym (select_miss p x xs t)))
+        (λ t. rest ∙ ap (λ r. sort_into before r (select p xs)) (select_in x ys t h)
+        ∙ ap (sort_into before (select p ys)) (sym (select_hit p x xs t)))
+        (λ t. rest ∙ ap (λ r. sort_into before r (select p xs)) (select_out x ys t)
+        ∙ ap (sort_into before (select p ys)) (sym (select_miss p x xs t)))
 
     -- those of a sort that pass are the sort of those that pass
     pub sorted_select : (xs : List A) → select p (sort_into before [] xs) ≡ sort_into before [] (select p xs)

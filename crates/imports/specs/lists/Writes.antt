@@ -1,6 +1,5 @@
 -- Import records written to a target, or only counted. Only contracts of inner functions and proofs cite it.
-use Rattle.std.specs.Prelude.{ℕ, ◌+◌, ◌*◌, ◌^◌, ◌≤◌, ◌<◌, ◌≡◌, List, map, Bool, true, false, not, eqb, length}
-use Rattle.std.proofs.lemmas.List.Edits.{sets}
+use Rattle.std.specs.Prelude.{ℕ, ◌+◌, ◌*◌, ◌^◌, ◌≤◌, ◌<◌, ◌≡◌, List, map, Bool, true, not, eqb, length}
 use Rattle.snapshot.specs.Limits.{crate_limit, module_limit, name_limit, definition_limit, namespace_limit}
 use Rattle.snapshot.specs.Sizes.{import_size}
 use Rattle.snapshot.specs.Records.{Snapshot, Scope, Import, Member}
@@ -10,6 +9,7 @@ use Rattle.check_records.specs.record_rules.Stands.{counts_in}
 use Rattle.accept.specs.Valid.{ScopeFits}
 use Rattle.hir_def.specs.Finds.{select}
 use Rattle.import_rules.specs.Collect.{is_member_of, member_import, words_of}
+use Rattle.answer.specs.counts.Targets.{written}
 use Rattle.imports.specs.order.Lists.{Ready}
 use Rattle.imports.specs.lists.Threads.{member_heads_base, member_links_base, member_of}
 use Rattle.imports.specs.declared.lists.write.NewImport.{NewImport}
@@ -30,11 +30,6 @@ pub record Bounded (x : Import) : Type 0 where
   pub name : x.name < name_limit
   pub container : x.container < module_limit
   pub bits : x.bits ≤ 3
-
--- the target with words stored from a place on, or as it was
-unfoldable pub written : Bool → ℕ → List ℕ → List ℕ → List ℕ
-written true at ws T = sets T at ws
-written false at ws T = T
 
 -- the words of imports can be counted, and there is room for them at a place if they are to be written
 pub record Space (write : Bool) (at : ℕ) (xs : List Import) (T : List ℕ) : Type 0 where

@@ -32,7 +32,7 @@ pub fn member_links_base(l: Layout) -> usize
 }
 
 // Leaves the heads of the public entries of all modules in the work area, in record order, and answers how many there are.
-// By the number of the visibility, 0 for public, as the definition tests it: a `match` on a `Visibility`, with an arm and a rest, would be no plainer.
+// By the number of the visibility, 0 for public, as the definition tests it: a `match` on a `Visibility` would be no plainer.
 // `base + Size::SCOPE * k` is the place of record k: a method for it would be this sum under a name. So with `Size::MEMBER` below.
 fn gather(records: &Records, area: &mut [u32]) -> usize
     requires { Ready records.now.words.now area.old records.now.layout }
@@ -70,9 +70,11 @@ fn thread_entries(words: &[u32], area: &mut Area, n: usize)
 
 // Threads the members by parent, the last first.
 fn thread_members(records: &Records, area: &mut Area)
-    requires area_len { (member_links_base records.now.layout + records.now.layout.members ≤ area_limit) × (word_count records.now.layout ≤ word_limit) }
+    requires area_len { (member_links_base records.now.layout + records.now.layout.members ≤ area_limit)
+        × (word_count records.now.layout ≤ word_limit) }
     requires by_index { ((b : ℕ) → b < records.now.layout.definitions → get_or area.old (member_heads_base records.now.layout + b) 0 ≡ 0)
-        × ((j : ℕ) → j < records.now.layout.members → (member_of records.now.words.now records.now.layout j).parent < records.now.layout.definitions) }
+        × ((j : ℕ) → j < records.now.layout.members
+        → (member_of records.now.words.now records.now.layout j).parent < records.now.layout.definitions) }
     ensures { Threads records.now.layout.definitions (member_heads_base records.now.layout) (member_links_base records.now.layout)
         (λ j. (member_of records.now.words.now records.now.layout j).parent) records.now.layout.members area.old area.new }
 {

@@ -54,7 +54,8 @@ fn pile_base(l: Layout) -> usize
 
 // Puts the module that an entry names, if it names one, on the pile of so many.
 fn push(records: &Records, area: &mut [u32], entry: usize, top: usize) -> usize
-    requires { Ready records.now.words.now area.old records.now.layout × (top ≤ records.now.layout.scopes) × ((scope_at records.now.words.now entry).definition < records.now.layout.definitions) }
+    requires { Ready records.now.words.now area.old records.now.layout × (top ≤ records.now.layout.scopes)
+        × ((scope_at records.now.words.now entry).definition < records.now.layout.definitions) }
     ensures { Pushed records.now.layout top (piled (snap_by records.now area.old) (scope_at records.now.words.now entry ∷ [])
         (pile_at area.old records.now.layout top)) area.old area.new result }
 {

@@ -157,7 +157,8 @@ fn put_module(
     c: Crate,
     m: ModuleId,
 ) -> usize
-    requires threaded { Threaded db.now.records.words.now db.now.area.now db.now.records.layout n × (c.0 < db.now.records.layout.crates) × (m.0 < module_limit) }
+    requires threaded { Threaded db.now.records.words.now db.now.area.now db.now.records.layout n × (c.0 < db.now.records.layout.crates)
+        × (m.0 < module_limit) }
     requires space { Space write at (imports_in (snap_in db.now) c.0 (entries_of (snap_in db.now) m.0))
         target.old }
     ensures { Wrote write at (imports_in (snap_in db.now) c.0
@@ -183,7 +184,8 @@ pub fn put_modules(
     write: bool,
     c: Crate,
 ) -> usize
-    requires threaded { Threaded db.now.records.words.now db.now.area.now db.now.records.layout n × (c.0 < db.now.records.layout.crates) × (order ≤ db.now.records.layout.scopes + 1)
+    requires threaded { Threaded db.now.records.words.now db.now.area.now db.now.records.layout n × (c.0 < db.now.records.layout.crates)
+        × (order ≤ db.now.records.layout.scopes + 1)
         × Each (λ m. m < db.now.records.layout.modules) (order_at db.now.area.now db.now.records.layout order) }
     requires space { Space write at (imports_over (snap_in db.now) c.0 (order_at db.now.area.now db.now.records.layout order)) target.old }
     ensures { Wrote write at (imports_over (snap_in db.now) c.0 (order_at db.now.area.now db.now.records.layout order))

@@ -1,3 +1,5 @@
+use mathlib.Core.Path.{ap, ◌∙◌}
+use Rattle.answer.specs.Answers.{zeros}
 use Rattle.join.proofs.Laws.{joins_small, joins_large}
 use Rattle.join.proofs.join.Goals as goal
 
@@ -7,4 +9,4 @@ returns-in_default c = joins_small c.args.first.now c.args.second.now c.args.are
 pub returns : goal.returns
 returns c =
     joins_large c.args.first.now c.args.second.now c.args.area.now c.args.target.now _ _ _ c.in-Some.ensures.cases.enough
-    c.join_within.ensures.area_after c.join_within.ensures.joins
+    (c.clear.ensures ∙ ap zeros c.join_checked-r.array_long) c.join_checked-r.ensures

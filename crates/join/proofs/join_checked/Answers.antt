@@ -1,4 +1,4 @@
-use mathlib.Core.Path.{refl, ◌∙◌}
+use mathlib.Core.Path.{refl}
 use Rattle.check_rules.proofs.Exits.{err_is}
 use Rattle.answer.proofs.checked.Laws.{refused_verdict, accepted_reads}
 use Rattle.join.proofs.numbers.Parts.{part_of_lem}

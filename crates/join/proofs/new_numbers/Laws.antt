@@ -1,6 +1,6 @@
 -- What a call leaves, by what was refused.
 use Prim.Native.Nat.{ℕ, ◌+◌, ◌≤◌, ◌<◌}
-use mathlib.Core.Path.{◌≡◌, refl, sym, ◌∙◌, ap, subst}
+use mathlib.Core.Path.{◌≡◌, refl, sym, ◌∙◌, ap, ap₂, subst}
 use mathlib.Core.List.{List, ◌++◌}
 use native.Mathlib.Omega.{arith}
 use borrow.Author.Tests.{lt-ltb, le-ltb}
@@ -27,13 +27,13 @@ pub apart : {n at : ℕ} {s : Snapshot} → refuse n at ≡ accept s → ⊥
 unfolding IsRefused
 apart e = subst IsRefused e tt
 
-pub first_refused : {v : Verdict} (w : Verdict) (A : List ℕ) (n at : ℕ) → A ≡ zeros area_limit → refuse n at ≡ v → NumbersBy v w A n
+pub first_refused : {v : Verdict} (w : Verdict) (A : List ℕ) (n at : ℕ) → refuse n at ≡ v → NumbersBy v w A n
 unfolding fault_by
-first_refused {v} w A n at z e = record { number = ap (λ x. fault_by x w) e; tables = λ s t p q. absurd (apart (e ∙ p)); cleared = λ _. z }
+first_refused {v} w A n at e = record { number = ap (λ x. fault_by x w) e; tables = λ s t p q. absurd (apart (e ∙ p)) }
 
-pub second_refused : (s : Snapshot) {w : Verdict} (A : List ℕ) (n at : ℕ) → A ≡ zeros area_limit → refuse n at ≡ w → NumbersBy (accept s) w A n
+pub second_refused : (s : Snapshot) {w : Verdict} (A : List ℕ) (n at : ℕ) → refuse n at ≡ w → NumbersBy (accept s) w A n
 unfolding fault_by
-second_refused s {w} A n at z e = record { number = ap (fault_by (accept s)) e; tables = λ u t p q. absurd (apart (e ∙ q)); cleared = λ _. z }
+second_refused s {w} A n at e = record { number = ap (fault_by (accept s)) e; tables = λ u t p q. absurd (apart (e ∙ q)) }
 
 module _ (W X A : List ℕ) (first : verdict W ≡ accept (part_of W)) where
   pub by_first : (B : List ℕ) (r : ℕ) → NumbersBy (accept (part_of W)) (verdict X) B r → NumbersBy (verdict W) (verdict X) B r
@@ -50,7 +50,6 @@ module _ (W X A : List ℕ) (first : verdict W ≡ accept (part_of W)) where
             let b : part_of X ≡ t = part_is X t q in
             subst (λ x. NumbersIn x t B) a (subst (λ x. NumbersIn (part_of W) x B) b k.numbers)
             );
-        cleared = λ z. absurd (z (ap (fault_by (accept (part_of W))) second));
       }
 
 pub numbers_small : (W X A : List ℕ) → length A < area_limit → NewNumbers W X A A area_refusal
@@ -63,12 +62,27 @@ numbers_small W X A h =
       rest = refl;
     }
 
-pub numbers_large : (W X A B : List ℕ) (r : ℕ) → area_limit ≤ length A → length B ≡ area_limit → NumbersBy (verdict W) (verdict X) B r
-    → NewNumbers W X A (B ++ drop area_limit A) r
+-- the fault of two inputs in an area that serves
+fault_large : (W X A : List ℕ) → area_limit ≤ length A → numbers_fault (length A) W X ≡ fault_by (verdict W) (verdict X)
 unfolding numbers_fault
-numbers_large W X A B r h n k =
+fault_large W X A h = rw (numbers_fault, le-ltb _ _ h)
+
+pub numbers_refused : (W X A B C : List ℕ) (r : ℕ) → area_limit ≤ length A → length B ≡ area_limit → B ≡ zeros area_limit
+    → (r ≡ 0 → ⊥) → NumbersBy (verdict W) (verdict X) C r → NewNumbers W X A (B ++ drop area_limit A) r
+unfolding fault_by
+numbers_refused W X A B C r h n z some k =
     record {
-      number = k.number ∙ sym (rw (numbers_fault, le-ltb _ _ h));
+      number = k.number ∙ sym (fault_large W X A h);
+      tables = λ s t g p q. absurd (some (k.number ∙ ap₂ fault_by p q));
+      cleared = λ _. area_large A B h z;
+      rest = drop_at B (drop area_limit A) area_limit n;
+    }
+
+pub numbers_large : (W X A B : List ℕ) → area_limit ≤ length A → length B ≡ area_limit → NumbersBy (verdict W) (verdict X) B 0
+    → NewNumbers W X A (B ++ drop area_limit A) 0
+numbers_large W X A B h n k =
+    record {
+      number = k.number ∙ sym (fault_large W X A h);
       tables = λ s t g p q. (
           let i = k.tables s t p q in
           let l = (accepted_valid X t q).limits in
@@ -78,6 +92,6 @@ numbers_large W X A B r h n k =
                 ∙ i.definitions j u;
           }
           );
-      cleared = λ z. area_large A B h (k.cleared (λ e. z ((rw (numbers_fault, le-ltb _ _ h)) ∙ e)));
+      cleared = λ z. absurd (z (fault_large W X A h ∙ sym k.number));
       rest = drop_at B (drop area_limit A) area_limit n;
     }

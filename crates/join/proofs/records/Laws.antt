@@ -4,7 +4,6 @@ use mathlib.Core.Path.{◌≡◌, refl, sym, ◌∙◌, ap, ap₂, subst}
 use mathlib.Core.List.{List, [], ◌∷◌, ◌++◌, append_assoc, append-nil}
 use mathlib.Core.Bool.{Bool, true, false, not}
 use native.Mathlib.Omega.{arith}
-use native.Mathlib.Nat.{add-zero}
 use borrow.Author.Tests.{eq-eqb, ne_eqb, lt-ltb, le-ltb, ltb-true, ltb-false, leb-true, leb-false, not-true, not-false}
 use lib.Dec.{leb, ltb}
 use borrow.Rule.Slice.PartMut.{put_mid}
@@ -26,7 +25,9 @@ use Rattle.join_rules.specs.Joined.{Numbers, or_none, first_to, second_to, visib
 use Rattle.join.specs.numbers.Numbered.{name_table, definition_table}
 use Rattle.join.specs.records.Moves.{numbers_of, role_table, role_of, definition_of, field_to, moved_word, moved_at, kept_at, kept_words, walked}
 use Rattle.join.specs.records.Moves.{moved_run, run_of, base_of, kind_to, kinds, words_to}
-use Rattle.join.specs.records.Writes.{written, Space, Wrote, Whole}
+use Rattle.join.specs.records.Writes.{Space, Wrote, Whole}
+use Rattle.answer.proofs.counts.Targets.{sets_append, written_append, written_length, written_none}
+use Rattle.answer.specs.counts.Targets.{written}
 
 -- a word moved
 
@@ -143,12 +144,6 @@ module _ (e : Numbers) (X : List ℕ) (at i : ℕ) {k p v role : ℕ} (a : k ≡
 
 -- words stored from a place on
 
-pub sets_append : (T xs ys : List ℕ) (i : ℕ) → sets T i (xs ++ ys) ≡ sets (sets T i xs) (i + length xs) ys
-sets_append T [] ys i = ap (λ k. sets T k ys) (sym (add-zero i))
-sets_append T (x ∷ xs) ys i =
-    let e : suc i + length xs ≡ i + suc (length xs) = omega arith in
-    sets_append (set T i x) xs ys (suc i) ∙ ap (λ k. sets (sets (set T i x) (suc i) xs) k ys) e
-
 pub store_start : (f : ℕ → ℕ) (T : List ℕ) (to : ℕ) → T ≡ sets T to (rows f 0 0)
 unfolding rows
 store_start f T to = refl
@@ -160,22 +155,6 @@ store_next f {T} T₀ to i v e q =
     ∙ sym (sets_append T₀ (rows f 0 i) (f i ∷ []) to) ∙ ap (sets T₀ to) (sym (rows_snoc f i))
 
 -- words that are written, or only counted
-
-written_append : (write : Bool) (at : ℕ) (xs ys T : List ℕ) → written write (at + length xs) ys (written write at xs T)
-    ≡ written write at (xs ++ ys) T
-unfolding written
-written_append true at xs ys T = sym (sets_append T xs ys at)
-written_append false at xs ys T = refl
-
-written_length : (write : Bool) (at : ℕ) (ws T : List ℕ) → length (written write at ws T) ≡ length T
-unfolding written
-written_length true at ws T = length-sets T at ws
-written_length false at ws T = refl
-
-written_none : (write : Bool) (at : ℕ) (T : List ℕ) → written write at [] T ≡ T
-unfolding written
-written_none true at T = refl
-written_none false at T = refl
 
 pub wrote_size : {write : Bool} {at r : ℕ} {ws T U : List ℕ} → Wrote write at ws T U r → length U ≡ length T
 wrote_size {write} {at} {r} {ws} {T} w = ap length w.same ∙ written_length write at ws T

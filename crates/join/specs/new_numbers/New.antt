@@ -4,7 +4,7 @@ use Rattle.snapshot.specs.Limits.{area_limit}
 use Rattle.snapshot.specs.Refusals.{area_refusal}
 use Rattle.snapshot.specs.Records.{Snapshot}
 use Rattle.check_rules.specs.Verdict.{Verdict, refuse, accept, verdict}
-use Rattle.answer.specs.Answers.{zeros, area_after}
+use Rattle.answer.specs.Answers.{area_after}
 use Rattle.join_rules.specs.Joined.{second_numbers}
 use Rattle.join.specs.numbers.Numbered.{NumbersIn}
 
@@ -18,11 +18,10 @@ fault_by (accept s) (accept t) = 0
 unfoldable pub numbers_fault : ℕ → List ℕ → List ℕ → ℕ
 numbers_fault area W X = elim (ltb area area_limit) [ true ↦ area_refusal | false ↦ fault_by (verdict W) (verdict X) ]
 
--- with an area of area_limit words: where both are accepted it holds the numbers of the second's names and definitions, else zeros
+-- with an area that serves: where both are accepted it holds the numbers of the second's names and definitions
 pub record NumbersBy (v w : Verdict) (A : List ℕ) (r : ℕ) : Type 0 where
   pub number : r ≡ fault_by v w
   pub tables : (s t : Snapshot) → v ≡ accept s → w ≡ accept t → NumbersIn s t A
-  pub cleared : (fault_by v w ≡ 0 → ⊥) → A ≡ zeros area_limit
 
 -- A₀ is the work area before the call, A after it
 pub record NewNumbers (W X A₀ A : List ℕ) (r : ℕ) : Type 0 where

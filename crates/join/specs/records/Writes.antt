@@ -1,15 +1,10 @@
 -- Words written to a target, or only counted. Only contracts of inner functions and proofs cite it.
-use Rattle.std.specs.Prelude.{ℕ, ◌+◌, ◌^◌, ◌≤◌, ◌<◌, ◌≡◌, List, Bool, true, false, length, get_or}
-use Rattle.std.proofs.lemmas.List.Edits.{sets}
+use Rattle.std.specs.Prelude.{ℕ, ◌+◌, ◌^◌, ◌≤◌, ◌<◌, ◌≡◌, List, Bool, true, length, get_or}
 use Rattle.snapshot.specs.Limits.{word_limit}
 use Rattle.snapshot.specs.Layouts.{word_count}
 use Rattle.snapshot.specs.declared.layout.Layout.{Layout}
+use Rattle.answer.specs.counts.Targets.{written}
 use Rattle.join.specs.declared.numbers.inputs.Parts.{Parts}
-
--- the target with words stored from a place on, or as it was
-unfoldable pub written : Bool → ℕ → List ℕ → List ℕ → List ℕ
-written true at ws T = sets T at ws
-written false at ws T = T
 
 -- the words can be counted; if they are to be written there is room for them at a place, and each fits
 pub record Space (write : Bool) (at : ℕ) (ws T : List ℕ) : Type 0 where

@@ -1,6 +1,4 @@
 //! The tables of the new numbers, for any two inputs: before they are checked, both are words alone.
-ghost use Rattle.std.specs.Prelude.{◌≡◌, length};
-ghost use Rattle.snapshot.specs.Limits.{area_limit};
 ghost use Rattle.snapshot.specs.Refusals.{fault_number};
 ghost use Rattle.check_rules.specs.Verdict.{accept, verdict};
 ghost use Rattle.join.specs.numbers.Parts.{part_of, Part};
@@ -19,44 +17,29 @@ fn number_second(first: &Records, second: &[u32], area: &mut Area) -> Result<(),
     requires { Part first.now.words.now first.now.layout }
     ensures { NumbersBy (accept (part_of first.now.words.now)) (verdict second.now) area.new (fault_number result) }
 {
-    match check(second, area) {
-        Err(no) => {
-            clear(area);
-            Err(no.why)
-        }
-        Ok(layout) => {
-            let second = Records {
-                words: second,
-                layout,
-            };
-            let parts = Parts {
-                first: *first,
-                second,
-            };
-            number(&parts, area);
-            Ok(())
-        }
-    }
+    let layout = check(second, area)?;
+    let second = Records {
+        words: second,
+        layout,
+    };
+    let parts = Parts {
+        first: *first,
+        second,
+    };
+    number(&parts, area);
+    Ok(())
 }
 
 // Checks both, and numbers the second's.
 fn number_checked(first: &[u32], second: &[u32], area: &mut Area) -> Result<(), Refusal>
-    ensures long { length area.new ≡ area_limit }
-    ensures numbers { NumbersBy (verdict first.now) (verdict second.now) area.new (fault_number result) }
+    ensures { NumbersBy (verdict first.now) (verdict second.now) area.new (fault_number result) }
 {
-    match check(first, area) {
-        Err(no) => {
-            clear(area);
-            Err(no.why)
-        }
-        Ok(layout) => {
-            let first = Records {
-                words: first,
-                layout,
-            };
-            number_second(&first, second, area)
-        }
-    }
+    let layout = check(first, area)?;
+    let first = Records {
+        words: first,
+        layout,
+    };
+    number_second(&first, second, area)
 }
 
 /// Leaves in the work area the numbers that the names and definitions of the second snapshot have in the two joined, for `new_name` and
@@ -68,5 +51,9 @@ pub fn new_numbers(first: &[u32], second: &[u32], area: &mut [u32]) -> Result<()
     let Some(front) = area.first_chunk_mut() else {
         return Err(Refusal::Area);
     };
-    number_checked(first, second, front)
+    if let Err(why) = number_checked(first, second, front) {
+        clear(front);
+        return Err(why);
+    }
+    Ok(())
 }

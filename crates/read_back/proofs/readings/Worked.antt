@@ -20,7 +20,8 @@ use Rattle.hir_def.specs.ItemScope.{get}
 use Rattle.hir_def.specs.Nameres.{steps_or, steps_to, steps, prelude_of}
 use Rattle.hir_def.specs.declared.Item.{Item}
 use Rattle.read_back.specs.readings.Reads.{outward, scopes_from, stands_for, meaning, entry_or, extern_named, extern_means, in_externs, prelude_means}
-use Rattle.read_back.specs.readings.Reads.{in_prelude_of, entry_from, first_name, variant_named, variant_in, later_name, after, looked_in, follow, plainly}
+use Rattle.read_back.specs.readings.Reads.{in_prelude_of, entry_from, first_name, variant_named, variant_in, later_name, after, looked_in}
+use Rattle.read_back.specs.readings.Reads.{follow, plainly}
 use Rattle.read_back.specs.readings.Reads.{absolutely, parent_means, reads_to}
 
 -- viewing module, namespace, kind of the path, its names, and what it means

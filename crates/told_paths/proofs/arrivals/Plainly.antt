@@ -23,6 +23,7 @@ use Rattle.nameable.specs.Paths.{reads, item_in, means}
 use Rattle.nameable.specs.Breadth.{single, is_item, first_to}
 use Rattle.nameable.proofs.Lists.{by_option, none_some, first_hit, first_miss, first_found_lem}
 use Rattle.nameable.proofs.Reached.{each_in, named_in_lem}
+use Rattle.any_path.proofs.Plains.{map_or, first_or}
 use Rattle.nameable.proofs.Arrives.{same_item_lem, or_first_none}
 use Rattle.nameable.proofs.Lookups.{first_mapped, first_same, ns_of_item}
 use Rattle.nameable.proofs.Queue.{first_of_append}
@@ -95,15 +96,6 @@ module _ (item : Item) (xs : List Named) where
       let t = (first_found_lem (λ (y : Named). is_meant y.name) xs x f).1 in
       sym (ap (λ (o : Option Named). is_item item (item_in o)) (own x f)) ∙ t)
 
-map_or : {A B : Type 0} (f : A → B) (a b : Option A) → or_first (option_map f a) (option_map f b) ≡ option_map f (or_first a b)
-unfolding or_first
-map_or f None b = refl
-map_or f (Some x) b = refl
-
-some_more : {A B : Type 0} (f : A → Option B) (x : A) (xs : List A) → first_some f (x ∷ xs) ≡ or_first (f x) (first_some f xs)
-unfolding first_some or_first
-some_more f x xs = by_option (f x) (λ z. rw (z, first_some)) (λ y z. rw (z, first_some))
-
 tests_same : (o n v i t : Bool) → (i ≡ true → n ≡ true) → (o && (n && v)) && (i && t) ≡ ((o && i) && v) && t
 tests_same false n v i t h = refl
 tests_same true true true false t h = refl
@@ -145,7 +137,7 @@ module _ (s : Snapshot) (from k d : ℕ) where
       first_of_append test (entries_in s from k m) (entries_over s from k ms)
       ∙ (ap₂ or_first (module_first m) (scopes_first ms)
       ∙ (map_or (as_named s) (plain_in s from item m) (first_some (plain_in s from item) ms)
-      ∙ ap (option_map (as_named s)) (sym (some_more (plain_in s from item) m ms))))
+      ∙ ap (option_map (as_named s)) (sym (first_or (plain_in s from item) m ms))))
 
   prelude_first : (o : Option Prelude) → first_of test (prelude_entries s from k o) ≡ option_map (as_named s) (plain_in_prelude s from item o)
   unfolding prelude_entries plain_in_prelude first_of

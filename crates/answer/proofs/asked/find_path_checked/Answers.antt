@@ -24,4 +24,5 @@ report_front-requires c =
 pub returns : goal.returns
 returns c =
     asked_by_lem c.args.words.now c.args.area.now c.args.counts.now c.requires _ _ c.layout_of-l.ensures refl
-    c.report_front.new.area (c.report_front.ensures.long ∙ sym (length-take-le area_limit c.args.area.now c.requires.room)) c.args.question _ c.report_front.ensures.report
+    c.report_front.new.area (c.report_front.ensures.long ∙ sym (length-take-le area_limit c.args.area.now c.requires.room))
+    c.args.question _ c.report_front.ensures.report

@@ -10,7 +10,8 @@ offer-one-requires c =
 pub offer-two-requires : goal.offer-two-requires
 offer-two-requires c =
     let below = root_below _ _ _ c.requires.0 c.args.from.0 c.requires.1 in
-    (c.offer-one.ensures.run, c.requires.0.tables.limited.modules, omega (arith, below, c.crate_root-root.ensures), omega arith, omega arith, omega arith)
+    let root = c.crate_root-root.ensures in
+    (c.offer-one.ensures.run, c.requires.0.tables.limited.modules, omega (arith, below, root), omega arith, omega arith, omega arith)
 
 pub offer_supers-requires : goal.offer_supers-requires
 offer_supers-requires c =

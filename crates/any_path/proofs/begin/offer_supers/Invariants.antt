@@ -7,7 +7,8 @@ use Rattle.any_path.proofs.begin.offer_supers.Given as goal
 
 abbrev pub invariant-loop-p : goal.invariant-loop-p
 invariant-loop-p l =
-    (from : ℕ) → l.initial.m.0 ≡ module_around (snap_by l.records l.initial.area) from → from < l.records.layout.modules → Climbing l.records.words.now l.initial.area l.records.layout from l.n l.area l.count l.m.0 l.k
+    (from : ℕ) → l.initial.m.0 ≡ module_around (snap_by l.records l.initial.area) from → from < l.records.layout.modules
+    → Climbing l.records.words.now l.initial.area l.records.layout from l.n l.area l.count l.m.0 l.k
 
 abbrev pub decreases-loop-p : goal.decreases-loop-p
 decreases-loop-p l = l.m.0

@@ -17,4 +17,5 @@ pub returns : goal.returns
 returns c =
     let S = snap_in c.args.view.now.db in
     let x = scope_at c.args.view.now.db.records.words.now c.args.h in
-    and_no (is_module_entry S c.args.m.0 x) (seen S c.args.view.now.from.0 x) (sym (c.is_module_entry.ensures c.args.view.now.db.area.now) ∙ c.if-is_module_entry.false)
+    and_no (is_module_entry S c.args.m.0 x) (seen S c.args.view.now.from.0 x)
+    (sym (c.is_module_entry.ensures c.args.view.now.db.area.now) ∙ c.if-is_module_entry.false)

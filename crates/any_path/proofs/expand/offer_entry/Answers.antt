@@ -26,7 +26,8 @@ offer-requires c =
     let limits = c.requires.0.tables.limited in
     let known = lead_known _ _ _ c.requires.0 c.args.from.0 c.args.i c.args.n c.args.h _ c.requires.2
     (sym c.leads_on.ensures ∙ c.if-leads_on.true) in
-    let target = c.first_of-target.ensures A ∙ ap (λ (d : ℕ). (definition_of (snap_of W A c.args.records.now.layout) d).first) c.scope_definition.ensures in (
+    let target = c.first_of-target.ensures A
+    ∙ ap (λ (d : ℕ). (definition_of (snap_of W A c.args.records.now.layout) d).first) c.scope_definition.ensures in (
       c.requires.3,
       limits.modules,
       omega (arith, known, target),
@@ -39,7 +40,8 @@ pub returns-then-leads_on : goal.returns-then-leads_on
 returns-then-leads_on c =
     let W = c.args.records.now.words.now in
     let A = c.args.area.now in
-    let target = c.first_of-target.ensures A ∙ ap (λ (d : ℕ). (definition_of (snap_of W A c.args.records.now.layout) d).first) c.scope_definition.ensures in
+    let target = c.first_of-target.ensures A
+    ∙ ap (λ (d : ℕ). (definition_of (snap_of W A c.args.records.now.layout) d).first) c.scope_definition.ensures in
     entry_offered _ _ _ c.requires.0 c.args.from.0 c.args.i c.args.n c.args.h _ c.word.ensures
     (sym c.leads_on.ensures ∙ c.if-leads_on.true) target refl c.scope_name-name.ensures c.offer.ensures
 

@@ -11,5 +11,7 @@ use Rattle.any_path.proofs.firsts.offer_externs.Given as goal
 
 abbrev pub invariant-loop-k : goal.invariant-loop-k
 invariant-loop-k l =
-    Trying extern_named (λ (x : Extern). eqb x.owner (crate_of (snap_by l.records l.initial.area) l.from.0)) (λ j. extern_at l.records.words.now
-    (extern_base l.records.layout + extern_size * j)) l.records.layout.externs l.records.layout.modules (snap_by l.records l.initial.area) l.from.0 l.initial.area l.n l.area l.count l.k
+    let S = snap_by l.records l.initial.area in
+    Trying extern_named (λ (x : Extern). eqb x.owner (crate_of S l.from.0))
+    (λ j. extern_at l.records.words.now (extern_base l.records.layout + extern_size * j)) l.records.layout.externs l.records.layout.modules S
+    l.from.0 l.initial.area l.n l.area l.count l.k

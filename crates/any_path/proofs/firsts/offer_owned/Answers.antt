@@ -12,7 +12,8 @@ returns-then-ne c =
     let A = c.args.area.now in
     let L = c.args.records.now.layout in
     let S = snap_of W A L in
-    name_passed S from (extern_at W c.args.h).name (ne_eqb _ _ (λ e. (eqb-false _ _ (not-true _ (sym c.ne.ensures ∙ c.if-ne.true))) (c.extern_owner.ensures ∙ e))) c.requires.3
+    name_passed S from (extern_at W c.args.h).name
+    (ne_eqb _ _ (λ e. (eqb-false _ _ (not-true _ (sym c.ne.ensures ∙ c.if-ne.true))) (c.extern_owner.ensures ∙ e))) c.requires.3
 
 pub returns : goal.returns
 returns c =
@@ -21,5 +22,6 @@ returns c =
     let A = c.args.area.now in
     let L = c.args.records.now.layout in
     let S = snap_of W A L in
-    name_tried S from (extern_at W c.args.h).name (eq-eqb _ _ (sym c.extern_owner.ensures ∙ (eqb-true _ _ (not-false _ (sym c.ne.ensures ∙ c.if-ne.false))))) c.extern_name.ensures
+    name_tried S from (extern_at W c.args.h).name
+    (eq-eqb _ _ (sym c.extern_owner.ensures ∙ (eqb-true _ _ (not-false _ (sym c.ne.ensures ∙ c.if-ne.false))))) c.extern_name.ensures
     c.offer_plain.ensures

@@ -10,5 +10,6 @@ use Rattle.any_path.proofs.firsts.offer_scope.Given as goal
 
 abbrev pub invariant-loop-k : goal.invariant-loop-k
 invariant-loop-k l =
-    Trying (as_named (snap_by l.records l.initial.area)) (is_seen_in (snap_by l.records l.initial.area) l.from.0 types l.m.0) (λ j. scope_at l.records.words.now
-    (scope_base l.records.layout + scope_size * j)) l.records.layout.scopes l.records.layout.modules (snap_by l.records l.initial.area) l.from.0 l.initial.area l.n l.area l.count l.k
+    let S = snap_by l.records l.initial.area in
+    Trying (as_named S) (is_seen_in S l.from.0 types l.m.0) (λ j. scope_at l.records.words.now (scope_base l.records.layout + scope_size * j))
+    l.records.layout.scopes l.records.layout.modules S l.from.0 l.initial.area l.n l.area l.count l.k

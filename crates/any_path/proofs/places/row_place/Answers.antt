@@ -25,7 +25,8 @@ returns-then-link-eq0 c = place_keyword _ _ _ _ _ c.requires c.word-link.ensures
 pub returns-then-link-eq1 : goal.returns-then-link-eq1
 returns-then-link-eq1 c =
     place_absolute _ _ _ _ _ c.requires c.word-link.ensures c.word.ensures c.if-link-eq1.true
-    ((c.entry_place.ensures (snap_in c.args.view.now.db) _).1 ∙ ap (λ (o : Option Extern). place_in (option_map extern_named o)) c.externs_named.ensures)
+    ((c.entry_place.ensures (snap_in c.args.view.now.db) _).1
+    ∙ ap (λ (o : Option Extern). place_in (option_map extern_named o)) c.externs_named.ensures)
 
 pub returns-then-link-eq2 : goal.returns-then-link-eq2
 returns-then-link-eq2 c =
@@ -33,10 +34,12 @@ returns-then-link-eq2 c =
     (c.place_read.ensures _ _ ∙ ap place_in c.read_plain.ensures)
 
 pub overflow_mul-link : goal.overflow_mul-link
-overflow_mul-link c = record { fits = omega (arith, link_small _ _ _ _ _ c.requires c.args.view.now.db.reads.tables.limited.modules c.word-link.ensures) }
+overflow_mul-link c =
+    record { fits = omega (arith, link_small _ _ _ _ _ c.requires c.args.view.now.db.reads.tables.limited.modules c.word-link.ensures) }
 
 pub overflow_add-link : goal.overflow_add-link
-overflow_add-link c = record { fits = omega (arith, link_small _ _ _ _ _ c.requires c.args.view.now.db.reads.tables.limited.modules c.word-link.ensures) }
+overflow_add-link c =
+    record { fits = omega (arith, link_small _ _ _ _ _ c.requires c.args.view.now.db.reads.tables.limited.modules c.word-link.ensures) }
 
 pub returns : goal.returns
 returns c =

@@ -7,4 +7,5 @@ use Rattle.any_path.proofs.singles.offer_absolutes.Given as goal
 
 abbrev pub invariant-loop-k : goal.invariant-loop-k
 invariant-loop-k l =
-    (from : ℕ) → l.c.0 ≡ crate_of (snap_by l.records l.initial.area) from → Naming l.records.words.now l.initial.area l.records.layout from l.n l.area l.count l.k
+    (from : ℕ) → l.c.0 ≡ crate_of (snap_by l.records l.initial.area) from
+    → Naming l.records.words.now l.initial.area l.records.layout from l.n l.area l.count l.k

@@ -1,4 +1,4 @@
-use Rattle.std.proofs.Common.{[], ◌∷◌, refl, sym, arith, of_calls}
+use Rattle.std.proofs.Common.{[], ◌∷◌, refl, arith, of_calls}
 use Rattle.printer.specs.Printed.{end, turn}
 use Rattle.answer.proofs.checked.Laws.{checks_judged}
 use Rattle.printer.proofs.Laws.{next_more}

@@ -1,4 +1,4 @@
-use Rattle.std.specs.Prelude.{◌-◌, ◌≤◌, ◌≡◌, ℕ, List, length, Ok}
+use Rattle.std.specs.Prelude.{◌-◌, ◌≤◌, ℕ, List, length, Ok}
 use Rattle.std.specs.Fn.{CalledAt}
 use Rattle.std.specs.List.{FoldsTo}
 use Rattle.snapshot.specs.Limits.{routed_limit}

@@ -1,14 +1,13 @@
-use mathlib.Core.Path.{refl}
-use Rattle.reach.proofs.unchecked.Laws.{reaches_small, reaches_large}
+use mathlib.Core.Path.{◌≡◌, ap}
+use Rattle.std.proofs.Common.{rules}
+use Rattle.snapshot.specs.Limits.{area_limit}
+use Rattle.reach.specs.parts.Reach.{reach_of, told}
+use Rattle.reach.proofs.unchecked.Laws.{reaches_by}
 use Rattle.reach.proofs.unchecked.find_reach.Goals as goal
-
-pub returns-in_default : goal.returns-in_default
-returns-in_default c =
-    let s = c.args in
-    reaches_small s.words.now s.area.now s.v _ c.in_default.ensures.cases refl
 
 pub returns : goal.returns
 returns c =
     let s = c.args in
-    reaches_large s.words.now s.area.now s.v _ c.reach_within.new.area c.in-Some.ensures.cases.enough c.reach_within.ensures.value
-    c.reach_within.ensures.area_after
+    let f = c.in_front.ensures in
+    reaches_by s.words.now s.area.now s.v _ c.in_front.new.area f.cleared (λ h. ap told (f.small h))
+    (λ h. let d = f.done h in let k : told c.in_front.result ≡ reach_of s.words.now area_limit s.v = search rules in k)

@@ -35,4 +35,5 @@ pub returns : goal.returns
 returns c =
     asked_each c.args.words.now c.args.area.now c.args.counts.now c.requires c.args.questions.now c.args.reports.now
     _ c.fits.ensures c.if-not-fits.false _ _ c.layout_of-l.ensures refl
-    c.report_front.new.area (c.report_front.ensures.long ∙ sym (length-take-le area_limit c.args.area.now c.requires.room)) c.report_front.ensures.judged _ c.report_front.ensures.reports_after
+    c.report_front.new.area (c.report_front.ensures.long ∙ sym (length-take-le area_limit c.args.area.now c.requires.room))
+    c.report_front.ensures.judged _ c.report_front.ensures.reports_after

@@ -22,4 +22,5 @@ overflow_cast-area c =
 pub returns : goal.returns
 returns c =
     pushed_one c.requires.0 c.args.entry c.args.top c.scope_definition-d.ensures refl
-    (omega arith) (omega (arith, c.pile_base.ensures)) (kind_so Module _ c.ne.ensures (c.known_kind_of.ensures c.args.area.now) c.if-ne.false) (c.first_of-m.ensures c.args.area.now)
+    (omega arith) (omega (arith, c.pile_base.ensures)) (kind_so Module _ c.ne.ensures (c.known_kind_of.ensures c.args.area.now) c.if-ne.false)
+    (c.first_of-m.ensures c.args.area.now)

@@ -11,8 +11,14 @@ loop-k-init c =
     (q.1, going_start (space_as c.requires.space (sym q.0)))
 
 pub put_entry-t-requires : goal.put_entry-t-requires
-put_entry-t-requires c = let some : 0 < c.loop-k.k = omega (arith, c.loop-k-test.true) in
-    let e = c.word-entry.ensures in record { listed = entry_listed c.requires.threaded.0 c.args.c.0 c.loop-k.invariant.0 some e c.requires.threaded.1; space = space_first c.loop-k.invariant.1.space (imports_next c.requires.threaded.0 c.args.c.0 c.loop-k.invariant.0 some e refl).0 }
+put_entry-t-requires c =
+    let some : 0 < c.loop-k.k = omega (arith, c.loop-k-test.true) in
+    let e = c.word-entry.ensures in
+    let w = c.loop-k.invariant in
+    record {
+      listed = entry_listed c.requires.threaded.0 c.args.c.0 w.0 some e c.requires.threaded.1;
+      space = space_first w.1.space (imports_next c.requires.threaded.0 c.args.c.0 w.0 some e refl).0;
+    }
 
 pub loop-k-smaller : goal.loop-k-smaller
 loop-k-smaller c =
@@ -32,5 +38,6 @@ loop-k-preserved c =
 pub returns : goal.returns
 returns c =
     let q = imports_first c.requires.threaded.0 c.args.c.0 c.requires.threaded.2 c.word-k.ensures in
-    let z = imports_end c.args.db.now.records.words.now c.args.db.now.area.now c.args.db.now.records.layout c.args.n c.args.c.0 c.loop-k.k c.loop-k-test.false in
+    let db = c.args.db.now in
+    let z = imports_end db.records.words.now db.area.now db.records.layout c.args.n c.args.c.0 c.loop-k.k c.loop-k-test.false in
     wrote_as (going_done c.loop-k.invariant.1 z) q.0

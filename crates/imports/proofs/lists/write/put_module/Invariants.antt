@@ -4,7 +4,8 @@ use Rattle.imports.proofs.lists.write.put_module.Given as goal
 
 abbrev pub invariant-loop-k : goal.invariant-loop-k
 invariant-loop-k l =
-    (l.k ≤ l.n) × Going l.write (imports_at l.db.records.words.now l.db.area.now l.db.records.layout l.n l.c.0 l.initial.k) l.initial.t l.initial.target (imports_at l.db.records.words.now l.db.area.now l.db.records.layout l.n l.c.0 l.k) l.t l.target
+    let left = imports_at l.db.records.words.now l.db.area.now l.db.records.layout l.n l.c.0 in
+    (l.k ≤ l.n) × Going l.write (left l.initial.k) l.initial.t l.initial.target (left l.k) l.t l.target
 
 abbrev pub decreases-loop-k : goal.decreases-loop-k
 decreases-loop-k l = l.k

@@ -8,8 +8,11 @@ use Rattle.imports.proofs.lists.write.put_modules.Goals as goal
 
 pub loop-i-init : goal.loop-i-init
 loop-i-init c =
-    let a = c.args in
-    (omega arith, going_start (space_as c.requires.space (over_first a.db.now.records.words.now a.db.now.area.now a.db.now.records.layout a.c.0 a.order)))
+    let a = c.args in (
+      omega arith,
+      going_start (space_as c.requires.space
+          (over_first a.db.now.records.words.now a.db.now.area.now a.db.now.records.layout a.c.0 a.order)),
+    )
 
 pub put_module-t-requires : goal.put_module-t-requires
 put_module-t-requires c = let a = c.args in

@@ -36,4 +36,5 @@ pub returns : goal.returns
 returns c =
     let w = c.loop-i in
     let e : c.args.n ≡ w.i = omega arith in
-    ap (λ k. ltb k c.args.m) e ∙ text_ended c.args.a.now c.args.b.now c.args.n c.args.m w.i c.requires.0 c.requires.1 w.invariant.1 c.loop-i-test.false
+    ap (λ k. ltb k c.args.m) e
+    ∙ text_ended c.args.a.now c.args.b.now c.args.n c.args.m w.i c.requires.0 c.requires.1 w.invariant.1 c.loop-i-test.false
