@@ -4,38 +4,67 @@ mod snapshots;
 use kelumavor::{Snapshot, SnapshotWords};
 
 use crate::library::Library;
-use crate::questions::{self, Answers, Question};
+use crate::questions::{self, Answer, Answers, Question};
 use crate::timing;
 
-/// A family: its snapshot by a number of modules, numbers for the table, and whether there is a path.
+/// A family: its snapshot by a number of modules, numbers for the table, whether there is a path, and the charges.
 struct Family {
     name: &'static str,
     make: fn(usize) -> (SnapshotWords, Question),
     sizes: &'static [usize],
     found: bool,
+    charges: u32,
+}
+
+impl Family {
+    /// One of one charge.
+    const fn new(
+        name: &'static str,
+        make: fn(usize) -> (SnapshotWords, Question),
+        sizes: &'static [usize],
+        found: bool,
+    ) -> Self {
+        Family { name, make, sizes, found, charges: 1 }
+    }
+
+    /// The answer to its question.
+    fn answer(&self) -> Answer {
+        Answer { found: self.found, charges: self.charges, empty: self.charges == Question::MAX_FUEL }
+    }
 }
 
 /// Those whose search is bounded. The last number is the largest for which the words are few enough.
-const BOUNDED: [Family; 4] = [
-    Family { name: "unreached", make: snapshots::unreached, sizes: &[5, 10, 20, 40], found: false },
-    Family { name: "globs", make: snapshots::globs, sizes: &[5, 10, 20, 40], found: false },
-    Family { name: "layers", make: snapshots::layers, sizes: &[2, 4, 6, 11], found: true },
-    Family { name: "clique", make: snapshots::clique, sizes: &[5, 10, 20, 40], found: true },
+const BOUNDED: [Family; 7] = [
+    Family::new("unreached", snapshots::unreached, &[5, 10, 20, 44], false),
+    Family::new("globs", snapshots::globs, &[5, 10, 20, 44], false),
+    Family::new("ignored", snapshots::ignored, &[5, 10, 20, 44], false),
+    Family::new("shadowed", snapshots::shadowed, &[5, 10, 20, 44], false),
+    Family::new("renamed", snapshots::renamed, &[5, 10, 20, 44], false),
+    Family::new("layers", snapshots::layers, &[2, 4, 6, 12], true),
+    Family::new("clique", snapshots::clique, &[5, 10, 20, 44], true),
 ];
 
 /// Those whose search still grows beyond what anybody waits for.
-const GROWING: [Family; 6] = [
-    Family { name: "ignored", make: snapshots::ignored, sizes: &[2, 3, 4, 5], found: false },
-    Family { name: "shadowed", make: snapshots::shadowed, sizes: &[2, 3, 4, 5], found: false },
-    Family { name: "repeats", make: snapshots::repeats, sizes: &[2, 3, 4, 5], found: true },
-    Family { name: "detour", make: snapshots::detour, sizes: &[1, 2, 3], found: true },
-    Family { name: "prelude", make: snapshots::prelude, sizes: &[1, 2, 3, 4], found: true },
-    Family { name: "preferred", make: snapshots::preferred, sizes: &[4, 7, 10, 13], found: true },
+const GROWING: [Family; 4] = [
+    Family::new("repeats", snapshots::repeats, &[2, 3, 4, 5], true),
+    Family::new("detour", snapshots::detour, &[1, 2, 3], true),
+    Family::new("prelude", snapshots::prelude, &[1, 2, 3, 4], true),
+    Family::new("preferred", snapshots::preferred, &[4, 7, 10, 13], true),
 ];
+
+/// Those whose search takes all the fuel.
+const CHARGED: [Family; 2] = [
+    Family { charges: Question::MAX_FUEL, ..Family::new("charged", snapshots::charged, &[5, 10, 20, 44], false) },
+    Family { charges: Question::MAX_FUEL, ..Family::new("hidden", snapshots::hidden, &[5, 10, 20], false) },
+];
+
+fn all() -> impl Iterator<Item = &'static Family> {
+    BOUNDED.iter().chain(&GROWING).chain(&CHARGED)
+}
 
 /// The words of a family and its question, where they are a snapshot.
 fn made(name: &str, size: usize) -> Option<(Vec<u32>, Question)> {
-    let family = BOUNDED.iter().chain(&GROWING).find(|family| family.name == name)?;
+    let family = all().find(|family| family.name == name)?;
     if !(1..=Snapshot::MAX_MODULES).contains(&size) {
         return None;
     }
@@ -65,6 +94,7 @@ pub fn input(name: &str, size: usize) -> Option<Vec<u8>> {
 pub fn print() {
     print_table("Families whose search is bounded", &BOUNDED);
     print_table("Families whose search grows", &GROWING);
+    print_table("Families whose search takes all the fuel", &CHARGED);
 }
 
 fn print_table(title: &str, families: &[Family]) {
@@ -76,7 +106,7 @@ fn print_table(title: &str, families: &[Family]) {
             let (words, question) = (family.make)(size);
             let words = words.into_words();
             let mut library = Library::new(&words);
-            let ns = timing::nanoseconds(|| library.put(&question).found == family.found);
+            let ns = timing::nanoseconds(|| library.put(&question) == family.answer());
             println!("| {} | {size} | {} | {:.1} |", family.name, words.len(), ns / 1000.0);
         }
     }
@@ -95,17 +125,17 @@ mod tests {
             let words = words.into_words();
             let start = std::time::Instant::now();
             let answer = Library::new(&words).put(&question);
-            assert!(answer.found == family.found && answer.charges == 1 && !answer.empty, "{}", family.name);
+            assert_eq!(answer, family.answer(), "{}", family.name);
             assert!(start.elapsed().as_millis() < 1000, "{}: {:?}", family.name, start.elapsed());
         }
     }
 
     #[test]
     fn the_smallest_of_all_are_answered() {
-        for family in BOUNDED.iter().chain(&GROWING) {
+        for family in all() {
             let (words, question) = (family.make)(family.sizes[0]);
             let answer = Library::new(&words.into_words()).put(&question);
-            assert!(answer.found == family.found && answer.charges == 1 && !answer.empty, "{}", family.name);
+            assert_eq!(answer, family.answer(), "{}", family.name);
         }
     }
 }

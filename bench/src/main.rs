@@ -1,7 +1,7 @@
 //! Times of the proved code, through the Rust bindings: the check by the size of the snapshot, and questions.
 //!
-//! `bench` prints tables, `bench files` that of several questions at once, `bench families` that of inputs made to be slow, `bench any` that of
-//! any path, `bench lists` that of import lists (feature `lists`). For a profiler,
+//! `bench` prints tables, `bench questions` that of questions alone, `bench files` that of several questions at once, `bench families` that of inputs
+//! made to be slow, `bench any` that of any path, `bench lists` that of import lists (feature `lists`). For a profiler,
 //! `bench check SHAPE COUNT` checks one snapshot so many times, `bench ask SHAPE COUNT` puts so many questions to the library on a checked
 //! snapshot, `bench recheck SHAPE COUNT` to its function that checks in every call, and `bench family FAMILY SIZE COUNT` puts the question of a
 //! family so many times; all print nothing. `bench input` writes an input of the path printer.
@@ -21,11 +21,13 @@ use std::io::Write;
 use kelumavor::{Snapshot, WorkArea};
 use shapes::Shape;
 
-const USAGE: &str = "bench [files | families | any | lists | check SHAPE COUNT | ask SHAPE COUNT | recheck SHAPE COUNT | family FAMILY SIZE COUNT
-    | input SHAPE COUNT | input FAMILY SIZE]
+const USAGE: &str =
+    "bench [questions | files | families | any | lists | check SHAPE COUNT | ask SHAPE COUNT | recheck SHAPE COUNT
+    | family FAMILY SIZE COUNT | input SHAPE COUNT | input FAMILY SIZE]
   SHAPE   small, workspace, chain, dependencies, names or scope
-  FAMILY  unreached, globs, layers or clique, whose search is bounded;
-          ignored, shadowed, repeats, detour, prelude or preferred, whose search grows with the size
+  FAMILY  unreached, globs, ignored, shadowed, renamed, layers or clique, whose search is bounded;
+          repeats, detour, prelude or preferred, whose search grows with the size;
+          charged or hidden, whose search takes all the fuel
   lists   needs the feature `lists`";
 
 fn main() {
@@ -41,6 +43,7 @@ fn main() {
             #[cfg(feature = "lists")]
             lists::print();
         }
+        ["questions"] => questions::print_all(),
         ["files"] => questions::print_files(),
         ["families"] => families::print(),
         ["any"] => any::print(),

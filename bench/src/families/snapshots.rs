@@ -1,6 +1,6 @@
 //! The snapshots of the families: each maker gives the words of one by a number of modules, and its question.
-use kelumavor::record::{Crate, Map};
-use kelumavor::{DefinitionId, Entry, MapId, ModuleId, NameId, Namespace, SnapshotWords};
+use kelumavor::record::{Crate, Dependency, Map};
+use kelumavor::{CrateId, DefinitionId, Entry, Import, MapId, ModuleId, NameId, Namespace, SnapshotWords, Visibility};
 
 use crate::questions::Question;
 
@@ -28,11 +28,23 @@ struct Named {
 /// A crate whose root, or a block in it, is the viewing module and has children; an item of the root.
 struct Made {
     words: SnapshotWords,
+    krate: CrateId,
     map: MapId,
     from: ModuleId,
     all: Vec<Named>,
     name: NameId,
     item: DefinitionId,
+}
+
+/// A dependency with two modules.
+struct Other {
+    krate: CrateId,
+    modules: [DefinitionId; 2],
+}
+
+/// An import that is not hidden.
+fn import(definition: DefinitionId, name: NameId, container: ModuleId) -> Import {
+    Import { namespace: Namespace::Types, definition, name, container, hidden: false, unstable: false }
 }
 
 impl Made {
@@ -57,7 +69,7 @@ impl Made {
         let item = words.other_definition(root);
         let all =
             (0..count).map(|k| Named { name: names[k], module: modules[k], definition: definitions[k] }).collect();
-        Made { words, map, from, all, name, item }
+        Made { words, krate, map, from, all, name, item }
     }
 
     /// One more module behind the others, below a parent.
@@ -102,6 +114,39 @@ impl Made {
 
     fn hold(&mut self, owner: ModuleId) {
         self.words.add_entry(Entry::new(owner, Namespace::Types, self.name, self.item));
+    }
+
+    /// An import of a crate, by the item's name.
+    fn import(&mut self, krate: CrateId, definition: DefinitionId, container: ModuleId) {
+        self.words.add_import(krate, import(definition, self.name, container));
+    }
+
+    /// A dependency, its own map and its root.
+    fn dependency(&mut self) -> (CrateId, MapId, ModuleId) {
+        let krate = self.words.add_crate(Crate::default());
+        self.words.add_dependency(Dependency { owner: self.krate, on: krate, sysroot: false });
+        let map = self.words.add_map(Map { krate, block_in: None, no_std: false });
+        let root = self.words.module(map, None);
+        (krate, map, root)
+    }
+
+    /// A dependency with two modules that it imports into each other and themselves, and an item of it that it imports into the first: this is the
+    /// one that is asked for.
+    fn other(&mut self) -> Other {
+        let (krate, map, root) = self.dependency();
+        let inner = [(); 2].map(|()| self.words.module(map, Some(root)));
+        for module in inner {
+            self.words.child(root, module);
+        }
+        let modules = inner.map(|module| self.words.module_definition(module));
+        self.item = self.words.other_definition(root);
+        self.import(krate, self.item, inner[0]);
+        for definition in modules {
+            for container in inner {
+                self.import(krate, definition, container);
+            }
+        }
+        Other { krate, modules }
     }
 
     /// The words, and the question for the item.
@@ -167,6 +212,21 @@ pub fn shadowed(count: usize) -> (SnapshotWords, Question) {
     made.asked(PLAIN, 0)
 }
 
+/// As `clique`, but it is a module in the root's scope that names the last: it imports it for itself, and then for all by another name. The
+/// first of a module's names for another is the one that is taken, so nothing is found.
+pub fn renamed(count: usize) -> (SnapshotWords, Question) {
+    let mut made = Made::new(count, false);
+    let near = made.module("near", made.from);
+    made.entry(made.from, near, true);
+    let last = made.all[count - 1];
+    let private = Entry::new(near.module, Namespace::Types, last.name, last.definition);
+    made.words.add_entry(Entry { declared: false, visibility: Visibility::Implicit(near.module), ..private });
+    let again = Named { name: made.words.name("again"), ..last };
+    made.entry(near.module, again, false);
+    made.import_each_other();
+    made.asked(PLAIN, 0)
+}
+
 /// Children of the crate's root that import each other, the first of which holds the item. Its child, which the root imports and nothing else
 /// names, has the first in scope.
 pub fn repeats(count: usize) -> (SnapshotWords, Question) {
@@ -223,4 +283,32 @@ pub fn preferred(count: usize) -> (SnapshotWords, Question) {
     made.entry(made.from, made.all[count - 1], true);
     made.import_each_other();
     made.asked(PLAIN, PREFER_PRELUDE)
+}
+
+/// As `unreached`, but the item is a dependency's, and the modules that the dependency imports into each other it imports into the first of the
+/// root's children too. So a third of the charges have a local search, until no fuel is left.
+pub fn charged(count: usize) -> (SnapshotWords, Question) {
+    let mut made = Made::new(count, false);
+    made.import_each_other();
+    let other = made.other();
+    for definition in other.modules {
+        made.import(other.krate, definition, made.all[0].module);
+    }
+    made.asked(PLAIN, 0)
+}
+
+/// Dependencies that each hide so many imports of one module, which is imported into itself and another until no fuel is left: each charge looks for
+/// its imports in each dependency.
+pub fn hidden(count: usize) -> (SnapshotWords, Question) {
+    let mut made = Made::new(count, false);
+    let other = made.other();
+    let mut crates = vec![other.krate];
+    crates.extend((1..count).map(|_| made.dependency().0));
+    for krate in crates {
+        for k in 0..count {
+            let import = import(other.modules[0], made.all[k].name, made.from);
+            made.words.add_import(krate, Import { hidden: true, ..import });
+        }
+    }
+    made.asked(PLAIN, 0)
 }

@@ -269,7 +269,8 @@ impl Snapshot {
 
     /// A name of the snapshot, with its text, as it is written in an edition: a keyword with `r#`.
     pub(crate) fn written(&self, name: NameId, text: &Text, edition: Edition) -> Vec<u8> {
-        let raw = sys::is_raw(&self.words, &self.tables, name.0 as usize, edition as usize);
+        let raw = may_be_keyword(text.as_bytes())
+            && sys::is_raw(&self.words, &self.tables, name.0 as usize, edition as usize);
         if raw { [b"r#", text.as_bytes()].concat() } else { text.as_bytes().into() }
     }
 
@@ -331,4 +332,9 @@ impl Snapshot {
         }
         reports
     }
+}
+
+/// Whether a text may be a keyword: at most eight bytes, all but the first of them small letters. About others nothing is asked.
+fn may_be_keyword(text: &[u8]) -> bool {
+    text.len() <= 8 && text.iter().skip(1).all(u8::is_ascii_lowercase)
 }

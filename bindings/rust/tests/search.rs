@@ -152,7 +152,14 @@ fn keywords_are_raw_in_the_edition_of_the_viewer() {
     assert_eq!(line(Edition::Rust2024, "gen"), "found r#gen::f 1 0");
     assert_eq!(line(Edition::Rust2024, "union"), "found union::f 1 0");
     assert_eq!(line(Edition::Rust2024, "self"), "found self::f 1 0");
+    for keyword in RAW.split_whitespace() {
+        assert_eq!(line(Edition::Rust2024, keyword), format!("found r#{keyword}::f 1 0"));
+    }
 }
+
+/// All keywords of the last edition that can be raw.
+const RAW: &str = "as break const continue else enum extern false fn for if impl in let loop match mod move mut pub ref return static struct \
+    trait true type unsafe use where while abstract become box do final macro override priv typeof unsized virtual yield async await dyn try gen";
 
 /// The words of a question in the printer's input, for its route too or not.
 fn printer_words(question: &Question, routed: bool) -> [u32; 7] {

@@ -200,8 +200,9 @@ module _ (W A : List ℕ) (k : ℕ) (l : Layout) (ms : List Map) (st : Stands W 
             few = st.limited.modules;
             crates = st.limited.crates;
             owners = λ k h. (scope_read W B l (accepted_valid W (snap_of W B l) v) k h).owner;
+            entries = λ k h. (scope_read W B l (accepted_valid W (snap_of W B l) v) k h).definition;
+            imports = λ k h. (import_read W B l (accepted_valid W (snap_of W B l) v) k h).definition;
             dependencies = λ k h. (dependency_read W B l (accepted_valid W (snap_of W B l) v) k h).owner;
-            imports = λ k h. (import_read W B l (accepted_valid W (snap_of W B l) v) k h).owner;
             externs = λ k h. (extern_read W B l (accepted_valid W (snap_of W B l) v) k h).owner;
           }
 

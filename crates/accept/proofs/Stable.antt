@@ -83,7 +83,7 @@ module _ (W A B : List ℕ) (l : Layout) (t : Tables W A l) (kept : Kept A B 0 t
         first = λ m h. rw (map_stays m h, root_stays (module_map A m) (t.below m h)) (t.first m h);
         own = λ c h. own_stays c h ∙ t.own c h ∙ ap (own_of c) (sym maps_stay);
         owned = λ c h. rw (own_stays c h) (t.owned c h);
-        index = index_stays W A B l t.limited.modules t.limited.crates (let q = t.whole in let r = t.short in omega arith)
+        index = index_stays W A B l (let q = t.whole in let r = t.short in omega arith) t.limited.crates
             (λ i p q. kept i (omega arith) (omega arith)) t.index;
       }
 

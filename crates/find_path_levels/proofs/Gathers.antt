@@ -15,7 +15,7 @@ use Rattle.hir_def.specs.Nameres.{children_of, containers}
 use Rattle.hir_def.specs.declared.Item.{Item}
 use Rattle.find_path_spec.specs.Walk.{visited, start_from, leads_to, find_local_import_locations}
 use Rattle.find_path_levels.specs.declared.Stack.{Stack}
-use Rattle.find_path_levels.specs.Levels.{run_at, levels_of, Chain}
+use Rattle.find_path_levels.specs.Levels.{run_at, levels_of, Chain, walk_room}
 use Rattle.find_path_levels.specs.Push.{push, lean}
 use Rattle.find_path_levels.specs.Post.{Ready, Pushed, Gathered}
 use Rattle.find_path_levels.proofs.Rows.{run_none}
@@ -28,7 +28,7 @@ turns S from = length (start_from S from) + length S.scopes + module_limit
 
 -- The children, and then the containing modules.
 module _ (W A₀ : List ℕ) (l : Layout) (from : ℕ) (s : Stack) (item : Item) (r : Reads W A₀ l) (low : table_words ≤ s.top)
-    (space : s.top + module_limit ≤ length A₀) (chain : Chain A₀ s.place s.depth s.top) where
+    (space : s.top + walk_room ≤ length A₀) (chain : Chain A₀ s.place s.depth s.top) where
   abbrev S : Snapshot
   S = snap_of W A₀ l
 
@@ -65,6 +65,7 @@ module _ (W A₀ : List ℕ) (l : Layout) (from : ℕ) (s : Stack) (item : Item)
             below = d₁.below ∙ d.below;
             above = λ i h. d₁.above i h ∙ d.above i h;
             fits = d₁.fits;
+            places = d₁.places;
           }
 
 -- What the walk keeps: k of the run's n modules are taken.
@@ -73,7 +74,7 @@ pub record Walking (S : Snapshot) (from : ℕ) (A₁ : List ℕ) (s : Stack) (it
   pub whole : lean (leads_to S from) (visited (levels_of A₁ s.place s.depth) item) (turns S from) (run_at A₁ s.top n₁) 0
       ≡ lean (leads_to S from) (visited (levels_of A₁ s.place s.depth) item) (turns S from - k) (run_at A s.top n) k
   pub below : take s.top A ≡ take s.top A₁
-  pub above : (i : ℕ) → s.top + module_limit ≤ i → get_or A i 0 ≡ get_or A₁ i 0
+  pub above : (i : ℕ) → s.top + walk_room ≤ i → get_or A i 0 ≡ get_or A₁ i 0
   pub size : length A ≡ length A₁
   pub ready : Ready A s n
 

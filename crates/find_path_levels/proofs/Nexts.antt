@@ -6,7 +6,7 @@ use mathlib.Core.Bool.{Bool, true, false, ◌&&◌}
 use native.Mathlib.Omega.{arith}
 use lib.Dec.{eqb}
 use lib.ListN.{length}
-use borrow.Author.Tests.{eq-eqb, ne_eqb, eqb-true}
+use borrow.Author.Tests.{eq-eqb, ne_eqb}
 use Rattle.snapshot.specs.Lists.{rows}
 use Rattle.snapshot.specs.Limits.{module_limit}
 use Rattle.snapshot.specs.Sizes.{child_size, scope_size}
@@ -15,12 +15,11 @@ use Rattle.snapshot.specs.Layouts.{child_base, scope_base, snap_of}
 use Rattle.snapshot.specs.declared.layout.Layout.{Layout}
 use Rattle.snapshot.proofs.Laws.{rows_next, rows_none, rows_whole}
 use Rattle.accept.specs.Post.{Reads}
-use Rattle.accept.proofs.Bools.{and_left, and_right}
 use Rattle.accept.proofs.Valid.{accepted_valid}
 use Rattle.accept.proofs.Trees.{accepted_tree}
 use Rattle.accept.proofs.Reading.{child_read}
 use Rattle.hir_def.specs.Finds.{select}
-use Rattle.hir_def.specs.Items.{crate_of, containing, definition_of}
+use Rattle.hir_def.specs.Items.{crate_of, containing}
 use Rattle.hir_def.specs.ItemScope.{is_module_entry, entry_module}
 use Rattle.module_tree.specs.rules.Visibility.{sees, is_visible_from}
 use Rattle.hir_def.specs.Nameres.{children_of, containers, steps, steps_or}

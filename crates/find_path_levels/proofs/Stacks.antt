@@ -1,24 +1,27 @@
 -- Levels, and one module more on a run.
 use Prim.Native.Nat.{ℕ, zero, suc, ◌+◌, ◌-◌, ◌≤◌, ◌<◌}
-use mathlib.Core.Path.{◌≡◌, refl, sym, ◌∙◌, ap, ap₂, subst}
+use mathlib.Core.Path.{◌≡◌, refl, sym, ◌∙◌, ap, ap₂}
 use mathlib.Core.List.{List, [], ◌∷◌, ◌++◌}
-use mathlib.Core.Bool.{Bool, true, false, ◌||◌}
+use mathlib.Core.Bool.{Bool, true, false, ◌||◌, true≢false}
 use native.Mathlib.Omega.{arith}
-use lib.ListN.{length, get_or, set, take}
-use lib.Seq.{get_or-set_other, take-set-le}
+use lib.ListN.{length, get_or, set, take, length-set}
+use lib.Dec.{eqb}
+use borrow.Author.Tests.{eqb-true, eqb-false}
+use lib.Seq.{get_or-set_same, get_or-set_other, take-set-le}
 use Rattle.snapshot.specs.Limits.{module_limit}
 use Rattle.snapshot.specs.declared.layout.Layout.{Layout}
 use Rattle.snapshot.specs.Layouts.{snap_of, table_words}
-use Rattle.snapshot.proofs.Laws.{length_rows}
+use Rattle.snapshot.proofs.Laws.{length_rows, rows_ext}
+use Rattle.accept.proofs.Accepted.{by_test}
 use Rattle.accept.specs.Post.{Reads}
 use Rattle.hir_def.specs.declared.Item.{Item}
 use Rattle.find_path_spec.specs.Walk.{has, visited}
 use Rattle.find_path_spec.proofs.laws.Tables.{same_snap, same_reads}
 use Rattle.find_path_levels.specs.declared.Stack.{Stack}
-use Rattle.find_path_levels.specs.Levels.{item_at, run_at, levels_of, Chain, room}
+use Rattle.find_path_levels.specs.Levels.{item_at, run_at, levels_of, Chain, room, walk_room}
 use Rattle.find_path_levels.specs.Push.{push}
 use Rattle.find_path_levels.specs.Post.{Ready, Pushed}
-use Rattle.find_path_levels.proofs.Rows.{run_none, run_put, take_less, agree, run_same}
+use Rattle.find_path_levels.proofs.Rows.{run_none, run_put, run_has, take_less, agree, run_same}
 use Rattle.find_path_levels.proofs.Walks.{push_skip, push_take, push_none, push_append}
 use Rattle.find_path_levels.proofs.Rooms.{Fits, fits_snoc, fits_place, fits_none}
 
@@ -92,7 +95,8 @@ module _ (A : List ℕ) (s : Stack) (n : ℕ) (item : Item) (m : ℕ) (y : Ready
   run_fits = rw (length_rows (λ i. get_or A (s.top + i) 0) n) y.fits
 
   push_kept : seen m || has run m ≡ true → Pushed A s n item (m ∷ []) A n
-  push_kept e = record { same = sym (push_skip seen run m [] e ∙ push_none seen run); below = refl; above = λ i h. refl; fits = y.fits }
+  push_kept e =
+      record { same = sym (push_skip seen run m [] e ∙ push_none seen run); below = refl; above = λ i h. refl; fits = y.fits; places = y.places }
 
   pub push_seen : {r : Bool} → r ≡ seen m → r ≡ true → Pushed A s n item (m ∷ []) A n
   push_seen p t = push_kept (ap (λ b. b || has run m) (sym p ∙ t))
@@ -103,24 +107,61 @@ module _ (A : List ℕ) (s : Stack) (n : ℕ) (item : Item) (m : ℕ) (y : Ready
   pub push_place : {r : Bool} → m < module_limit → r ≡ has run m → r ≡ false → n < module_limit
   push_place h z t = omega (arith, fits_place module_limit run m h (sym z ∙ t) run_fits, length_rows (λ i. get_or A (s.top + i) 0) n)
 
-  pub push_new : {q r : Bool} (B : List ℕ) → m < module_limit → q ≡ seen m → q ≡ false → r ≡ has run m → r ≡ false → B ≡ set A (s.top + n) m
-      → Pushed A s n item (m ∷ []) B (n + 1)
-  push_new B h p u z t e =
-      let o : seen m || has run m ≡ false = ap₂ ◌||◌ (sym p ∙ u) (sym z ∙ t) in
-      let k : n < module_limit = push_place h z t in
-      let l = run ++ (m ∷ []) in
-      let f : Fits module_limit l = fits_snoc module_limit run m h (sym z ∙ t) run_fits in
-      let q : run_at B s.top (n + 1) ≡ l = ap (λ x. run_at x s.top (n + 1)) e ∙ run_put A s.top n m (omega (arith, y.space)) in
-      record {
-        same = q ∙ sym (push_take seen run m [] o ∙ push_none seen l);
-        below = ap (take s.top) e ∙ take-set-le s.top A (s.top + n) m (omega arith);
-        above = λ i o. ap (λ z. get_or z i 0) e ∙ get_or-set_other A (s.top + n) i m 0 (λ q. omega arith);
-        fits = omega (arith, f, ap length (sym q) ∙ length_rows (λ i. get_or B (s.top + i) 0) (n + 1), ap (room module_limit) q);
-      }
+  module _ {q r : Bool} (h : m < module_limit) (p : q ≡ seen m) (u : q ≡ false) (z : r ≡ has run m) (t : r ≡ false) where
+    abbrev A' : List ℕ
+    A' = set A (s.top + n) m
 
-pub ready_none : (A : List ℕ) (s : Stack) → table_words ≤ s.top → s.top + module_limit ≤ length A → Chain A s.place s.depth s.top
+    abbrev B : List ℕ
+    B = set A' (s.top + module_limit + m) n
+
+    k : n < module_limit
+    k = push_place h z t
+
+    -- words that stay
+    other : (i : ℕ) → (i ≡ s.top + n → ⊥) → (i ≡ s.top + module_limit + m → ⊥) → get_or B i 0 ≡ get_or A i 0
+    other i a b = get_or-set_other A' (s.top + module_limit + m) i n 0 b ∙ get_or-set_other A (s.top + n) i m 0 a
+
+    placed : (i : ℕ) → i < n + 1 → get_or B (s.top + module_limit + get_or B (s.top + i) 0) 0 ≡ i
+    placed i o =
+        by_test (eqb i n)
+        (λ e.
+        let e' = eqb-true i n e in
+        let w : get_or B (s.top + i) 0 ≡ m =
+        ap (λ j. get_or B (s.top + j) 0) e' ∙ get_or-set_other A' (s.top + module_limit + m) (s.top + n) n 0 (λ q. omega (arith, k))
+        ∙ get_or-set_same A (s.top + n) m 0 (omega (arith, y.space, k))
+        in
+        ap (λ j. get_or B (s.top + module_limit + j) 0) w
+        ∙ get_or-set_same A' (s.top + module_limit + m) n 0 (omega (arith, y.space, length-set A (s.top + n) m)) ∙ sym e')
+        (λ e.
+        let i' : i < n = let f = eqb-false i n e in omega arith in
+        let w : get_or B (s.top + i) 0 ≡ get_or A (s.top + i) 0 = other (s.top + i) (λ q. omega (arith, k)) (λ q. omega (arith, k)) in
+        let j = get_or A (s.top + i) 0 in
+        let new : j ≡ m → ⊥ = λ g. true≢false (sym (run_has A s.top n i i' g) ∙ sym z ∙ t) in
+        ap (λ v. get_or B (s.top + module_limit + v) 0) w
+        ∙ other (s.top + module_limit + j) (λ q. omega (arith, k)) (λ q. new (omega arith)) ∙ y.places i i')
+
+    pub push_new : Pushed A s n item (m ∷ []) B (n + 1)
+    push_new =
+        let o : seen m || has run m ≡ false = ap₂ ◌||◌ (sym p ∙ u) (sym z ∙ t) in
+        let l = run ++ (m ∷ []) in
+        let f : Fits module_limit l = fits_snoc module_limit run m h (sym z ∙ t) run_fits in
+        let q : run_at B s.top (n + 1) ≡ l =
+        rows_ext (λ i. get_or B (s.top + i) 0) (λ i. get_or A' (s.top + i) 0) (n + 1)
+        (λ i o. get_or-set_other A' (s.top + module_limit + m) (s.top + i) n 0 (λ q. omega (arith, k)))
+        ∙ run_put A s.top n m (omega (arith, y.space, k))
+        in
+        record {
+          same = q ∙ sym (push_take seen run m [] o ∙ push_none seen l);
+          below =
+              take-set-le s.top A' (s.top + module_limit + m) n (omega arith) ∙ take-set-le s.top A (s.top + n) m (omega arith);
+          above = λ i o. other i (λ q. omega (arith, k)) (λ q. omega (arith, k));
+          fits = omega (arith, f, ap length (sym q) ∙ length_rows (λ i. get_or B (s.top + i) 0) (n + 1), ap (room module_limit) q);
+          places = placed;
+        }
+
+pub ready_none : (A : List ℕ) (s : Stack) → table_words ≤ s.top → s.top + walk_room ≤ length A → Chain A s.place s.depth s.top
     → Ready A s 0
-ready_none A s t h c = record { tables = t; space = h; chain = c; fits = rw (run_none A s.top) (fits_none module_limit) }
+ready_none A s t h c = record { tables = t; space = h; chain = c; fits = rw (run_none A s.top) (fits_none module_limit); places = λ i o. absurd (omega arith) }
 
 pub ready_after : (A : List ℕ) (s : Stack) (n : ℕ) (item : Item) (ms B : List ℕ) (r : ℕ) → Ready A s n → Pushed A s n item ms B r
     → length B ≡ length A → Ready B s r
@@ -130,6 +171,7 @@ ready_after A s n item ms B r y d l =
       space = omega (arith, y.space);
       chain = chain_same A B s.top (sym d.below) s.depth s.place y.chain;
       fits = d.fits;
+      places = d.places;
     }
 
 -- What the loops that push keep: the modules that are left, pushed on the run as it is, give the whole.
@@ -137,7 +179,7 @@ pub record Pushing (A₀ : List ℕ) (s : Stack) (n : ℕ) (item : Item) (ms A :
   pub whole : push (visited (levels_of A₀ s.place s.depth) item) (run_at A₀ s.top n) ms
       ≡ push (visited (levels_of A₀ s.place s.depth) item) (run_at A s.top r) rest
   pub below : take s.top A ≡ take s.top A₀
-  pub above : (i : ℕ) → s.top + module_limit ≤ i → get_or A i 0 ≡ get_or A₀ i 0
+  pub above : (i : ℕ) → s.top + walk_room ≤ i → get_or A i 0 ≡ get_or A₀ i 0
   pub size : length A ≡ length A₀
   pub ready : Ready A s r
 
@@ -174,4 +216,5 @@ module _ (A₀ : List ℕ) (s : Stack) (n : ℕ) (item : Item) (ms : List ℕ) w
           below = g.below;
           above = g.above;
           fits = g.ready.fits;
+          places = g.ready.places;
         }

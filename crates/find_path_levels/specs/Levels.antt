@@ -1,8 +1,8 @@
 -- Runs of modules and levels as words of the work area.
-use Rattle.std.specs.Prelude.{ℕ, zero, suc, ◌+◌, ◌-◌, ◌*◌, ◌/◌, ◌%◌, ◌≤◌, ◌<◌, List, [], ◌∷◌, Bool, true, false, eqb, get_or}
+use Rattle.std.specs.Prelude.{ℕ, zero, suc, ◌+◌, ◌-◌, ◌*◌, ◌/◌, ◌%◌, ◌≤◌, ◌<◌, ◌≡◌, List, [], ◌∷◌, Bool, true, false, eqb, get_or}
 use Rattle.std.specs.Coded.{×_prop, le_prop}
 use Rattle.snapshot.specs.Lists.{rows}
-use Rattle.snapshot.specs.Limits.{definition_limit, namespace_limit}
+use Rattle.snapshot.specs.Limits.{module_limit, definition_limit, namespace_limit}
 use Rattle.hir_def.specs.Items.{defined_item, module_item}
 use Rattle.hir_def.specs.declared.Item.{Item}
 use Rattle.hir_def.specs.declared.Item.TheVariants.{Mod, Def}
@@ -33,6 +33,14 @@ item_at w = item_by w (eqb (w % 4) 3)
 -- n words from a place on
 abbrev pub run_at : List ℕ → ℕ → ℕ → List ℕ
 run_at A from n = rows (λ i. get_or A (from + i) 0) 0 n
+
+-- room for a run of all modules, and past it for the place of each
+abbrev pub walk_room : ℕ
+walk_room = 2 * module_limit
+
+-- each module of the run of n modules has its place there
+abbrev pub Placed : List ℕ → ℕ → ℕ → Type 0
+Placed A top n = (i : ℕ) → i < n → get_or A (top + module_limit + get_or A (top + i) 0) 0 ≡ i
 
 -- A level is known by the place of its run. The three words before are its item, the place of the level below, and its cursor.
 unfoldable pub levels_of : List ℕ → ℕ → ℕ → List Level

@@ -2,7 +2,7 @@
 ghost use Rattle.std.specs.Prelude.{◌≡◌, [], ◌∷◌, ℕ, ◌+◌, ◌-◌, ◌<◌, ◌≤◌, ◌&&◌, eqb, get_or, length};
 ghost use Rattle.snapshot.specs.Limits.{module_limit};
 ghost use Rattle.find_path_spec.specs.Walk.{has as has_in, visited as visited_in};
-ghost use Rattle.find_path_levels.specs.Levels.{code_of, run_at, levels_of, Chain};
+ghost use Rattle.find_path_levels.specs.Levels.{code_of, run_at, levels_of, Chain, walk_room, Placed};
 ghost use Rattle.find_path_levels.specs.Each.{AnyBy};
 ghost use Rattle.find_path_levels.specs.Post.{Ready, Pushed};
 
@@ -68,6 +68,19 @@ fn visited(area: &[u32], s: Stack, sought: Sought, m: ModuleId) -> bool
     any_level(area, s, test)
 }
 
+// Whether m is on the run of n modules at the top: past the room of the run stands the place of each that is.
+// No words need be cleared: a place that was not written is that of another module, or past the run.
+fn is_placed(area: &[u32], top: usize, n: usize, m: ModuleId) -> bool
+    requires { (top + walk_room ≤ length area.now) × (m.0 < module_limit) × Placed area.now top n }
+    ensures { result ≡ has_in (run_at area.now top n) m.0 }
+{
+    let k = word(area, top + ModuleId::LIMIT + m.0);
+    if n <= k {
+        return false;
+    }
+    word(area, top + k) == m.0
+}
+
 // One module goes to the end of the run of n modules at the top, unless it is visited or on it.
 pub(crate) fn push_module(
     area: &mut [u32],
@@ -82,9 +95,10 @@ pub(crate) fn push_module(
     if visited(area, s, sought, m) {
         return n;
     }
-    if has(area, s.top, n, m) {
+    if is_placed(area, s.top, n, m) {
         return n;
     }
     area[s.top + n] = m.0 as u32;
+    area[s.top + ModuleId::LIMIT + m.0] = n as u32;
     n + 1
 }

@@ -1,6 +1,5 @@
 //! `find_local_import_locations`: the modules that a local search takes, as a run of the work area.
 ghost use Rattle.std.specs.Prelude.{◌≡◌, map, ◌&&◌, ◌+◌, ◌<◌, ◌≤◌, eqb, length};
-ghost use Rattle.snapshot.specs.Limits.{module_limit};
 ghost use Rattle.snapshot.specs.Layouts.{table_words};
 ghost use Rattle.snapshot.specs.Records.{scope_at};
 ghost use Rattle.snapshot.specs.Laid.{snap_by};
@@ -10,7 +9,7 @@ ghost use Rattle.hir_def.specs.Items.{crate_of};
 ghost use Rattle.module_tree.specs.rules.Visibility.{sees};
 ghost use Rattle.hir_def.specs.Nameres.{children_of, containers};
 ghost use Rattle.find_path_spec.specs.Walk.{visited, leads_to, find_local_import_locations};
-ghost use Rattle.find_path_levels.specs.Levels.{levels_of, Chain};
+ghost use Rattle.find_path_levels.specs.Levels.{levels_of, Chain, walk_room};
 ghost use Rattle.find_path_levels.specs.Post.{Ready, Pushed, Gathered};
 
 use crate::levels::push_module;
@@ -138,7 +137,7 @@ pub fn find_local_import_locations(
     s: Stack,
     sought: Sought,
 ) -> usize
-    requires { Reads records.now.words.now area.old records.now.layout × (from.0 < records.now.layout.modules) × (table_words ≤ s.top) × (s.top + module_limit ≤ length area.old)
+    requires { Reads records.now.words.now area.old records.now.layout × (from.0 < records.now.layout.modules) × (table_words ≤ s.top) × (s.top + walk_room ≤ length area.old)
         × Chain area.old s.place s.depth s.top }
     ensures { Gathered area.old s.top (find_local_import_locations (snap_by records.now area.old)
         from.0 (visited (levels_of area.old s.place s.depth) sought.item)) area.new result }

@@ -5,7 +5,7 @@ ghost use Rattle.snapshot.specs.Limits.{module_limit, area_limit};
 ghost use Rattle.snapshot.specs.Laid.{snap_by};
 ghost use Rattle.accept.specs.Post.{Reads};
 ghost use Rattle.find_path_spec.specs.Walk.{visited, find_local_import_locations};
-ghost use Rattle.find_path_levels.specs.Levels.{levels_of, Chain};
+ghost use Rattle.find_path_levels.specs.Levels.{levels_of, Chain, walk_room};
 ghost use Rattle.find_path_levels.specs.Post.{Gathered};
 ghost use Rattle.find_path_levels.specs.walk_once.Walked.{walk_end, Walked};
 ghost use Rattle.find_path_levels.specs.walk_once.Post.{Copied, Kept};
@@ -70,7 +70,7 @@ pub fn locations(
     s: Stack,
     sought: Sought,
 ) -> usize
-    requires { Reads records.now.words.now area.old records.now.layout × (from.0 < records.now.layout.modules) × (walk_end ≤ s.top) × (s.top + module_limit ≤ length area.old)
+    requires { Reads records.now.words.now area.old records.now.layout × (from.0 < records.now.layout.modules) × (walk_end ≤ s.top) × (s.top + walk_room ≤ length area.old)
         × Chain area.old s.place s.depth s.top × Walked (snap_by records.now area.old) from.0 area.old }
     ensures { Gathered area.old s.top (find_local_import_locations (snap_by records.now area.old)
         from.0 (visited (levels_of area.old s.place s.depth) sought.item)) area.new result }

@@ -25,7 +25,7 @@ use Rattle.find_path_spec.specs.Local.{importable_name, location, each_location,
 use Rattle.find_path_spec.specs.Search.{search_local}
 use Rattle.find_path_spec.proofs.laws.Bounds.{Fits, nothing_fits, location_fits, search_local_fits}
 use Rattle.find_path_levels.specs.declared.Stack.{Stack}
-use Rattle.find_path_levels.specs.Levels.{Small, code_of, item_at, run_at, levels_of, Chain}
+use Rattle.find_path_levels.specs.Levels.{Small, code_of, item_at, run_at, levels_of, Chain, walk_room}
 use Rattle.find_path_levels.specs.Post.{Gathered}
 use Rattle.find_path_local.specs.Post.{Searchable, Answered, level_size}
 use Rattle.find_path_levels.proofs.Rows.{run_other, run_take, take_less, agree, run_same}
@@ -185,7 +185,7 @@ pub record Nesting (W : List ℕ) (l : Layout) (S : Snapshot) (x : FindPathCtx) 
 abbrev pub upper : Stack → ℕ → Stack
 upper s n = record { top = s.top + 3 + n; place = s.top + 3; depth = s.depth + 1 }
 
-module _ (W A₀ : List ℕ) (l : Layout) (x : FindPathCtx) (left : ℕ) (item : Item) (s : Stack) (some_left : 0 < left) (y : Searchable W A₀ l x left s)
+module _ (W A₀ : List ℕ) (l : Layout) (x : FindPathCtx) (left : ℕ) (item : Item) (s : Stack) (some_left : 1 < left) (y : Searchable W A₀ l x left s)
     (small : Small item) (code : ℕ) (named : code ≡ code_of item) where
   abbrev H : List ℕ
   H = headed A₀ s code
@@ -206,8 +206,8 @@ module _ (W A₀ : List ℕ) (l : Layout) (x : FindPathCtx) (left : ℕ) (item :
   pub head_walked : Walked (snap_of W H l) x.from.0 H
   head_walked = walked_kept H y (head_below A₀ s code)
 
-  pub head_space : s.top + 3 + module_limit ≤ length H
-  head_space = omega (arith, head_size A₀ s code, room, y.area)
+  pub head_space : s.top + 3 + walk_room ≤ length H
+  head_space = omega (arith, head_size A₀ s code, y.space, some_left, y.area)
 
   pub head_chain : Chain H s.place s.depth (s.top + 3)
   head_chain =
@@ -245,7 +245,7 @@ module _ (W A₀ : List ℕ) (l : Layout) (x : FindPathCtx) (left : ℕ) (item :
           opened = open_start A₀ s code item A₁ n named (omega (arith, room, y.area)) g.below;
           rows =
               rows_at_lem W H A₁ l x head_reads head_rows (take_less A₁ H distances_end (s.top + 3) (omega (arith, y.numbers)) g.below)
-              (λ i h. g.above i (omega (arith, room, h)));
+              (λ i h. g.above i (omega (arith, y.space, some_left, h)));
           whole = refl;
         }
 
@@ -313,7 +313,7 @@ module _ (W A₀ : List ℕ) (l : Layout) (x : FindPathCtx) (left : ℕ) (item :
             record {
               within = omega arith;
               few = v.few;
-              fits = rw er (step_fits S₁ x left _ best m (importable_name S₁ x item m) some_left v.fits);
+              fits = rw er (step_fits S₁ x left _ best m (importable_name S₁ x item m) (omega (arith, some_left)) v.fits);
               chain = v.chain;
               opened = open_kept A₁ s item n B cursor_open C a.below c;
               rows = a.rows;

@@ -1,7 +1,7 @@
 -- The laws of the module search and of one location.
 use Prim.Native.Nat.{ℕ, zero, suc, ◌+◌, ◌-◌, ◌≤◌, ◌<◌, ◌^◌}
 use mathlib.Core.Path.{◌≡◌, refl, sym, ◌∙◌, ap, subst}
-use mathlib.Core.List.{List, [], ◌∷◌}
+use mathlib.Core.List.{List, [], ◌∷◌, ◌++◌}
 use mathlib.Core.Bool.{Bool, true, false, true≢false}
 use Rattle.std.specs.Prelude.{Option, None, Some, ℕ}
 use native.Mathlib.Omega.{arith}
@@ -21,10 +21,10 @@ use Rattle.hir_def.specs.Entries.{entry_of}
 use Rattle.find_path_choice.specs.declared.Choice.{Choice as Path}
 use Rattle.find_path_choice.specs.Given.{chosen, given}
 use Rattle.find_path_spec.specs.declared.FindPathCtx.{FindPathCtx}
-use Rattle.find_path_choice.specs.Choices.{Choice, via_local, step_by, nothing, length_left, extended}
-use Rattle.find_path_spec.specs.Walk.{Level}
+use Rattle.find_path_choice.specs.Choices.{Choice, via_local, step_by, nothing, length_left, shorter_if, extended}
+use Rattle.find_path_spec.specs.Walk.{Level, visited, find_local_import_locations}
 use Rattle.find_path_spec.specs.Rules.{first_found, module_rules}
-use Rattle.find_path_spec.specs.Local.{offer, offer_entry, importable_name, location, calculate_best_path_local, or_local, find_path_for_module_local}
+use Rattle.find_path_spec.specs.Local.{offer, offer_entry, importable_name, location, each_location, calculate_best_path_local, or_local, find_path_for_module_local}
 use Rattle.find_path_spec.specs.Search.{search_local, best_local}
 use Rattle.find_path_spec.specs.Conditions.{Prepared, Asked, EntryFits, Chosen}
 use Rattle.find_path_spec.proofs.laws.Unfold.{length_falls, local_more}
@@ -35,7 +35,7 @@ use Rattle.find_path_spec.proofs.laws.Fewer.{refuted, or_left}
 use Rattle.find_path_spec.proofs.laws.Near.{near_none, near_step, far_nothing}
 use Rattle.find_path_spec.proofs.laws.Kept.{farther}
 use Rattle.find_path_local.specs.distances.Distances.{distance, Bounds}
-use Rattle.find_path_local.specs.distances.Post.{Ready, Bounded}
+use Rattle.find_path_local.specs.distances.Post.{Ready, Marked, Bounded}
 use Rattle.find_path_levels.specs.declared.Stack.{Stack}
 use Rattle.find_path_levels.specs.Levels.{Small, levels_of}
 use Rattle.find_path_local.specs.tight_rows.Rows.{rows_at, row_at, last_place, row_of, row_place, row_flag, Entered, Row}
@@ -43,6 +43,7 @@ use Rattle.find_path_levels.specs.walk_once.Walked.{walk_at, walk_end, Walked}
 use Rattle.find_path_levels.specs.walk_once.Post.{Kept}
 use Rattle.find_path_levels.proofs.walk_once.Walking.{walked_at}
 use Rattle.find_path_local.specs.tight_rows.Post.{Cleared, Tight}
+use Rattle.find_path_local.proofs.distances.Relaxing.{marked_again, walked_beyond}
 use Rattle.find_path_local.proofs.tight_rows.Keeping.{imports_known, row_asked, row_kept, rows_put, rows_none}
 use Rattle.find_path_local.specs.Post.{Searchable, Answered}
 use Rattle.find_path_levels.proofs.Rows.{agree, take_less}
@@ -97,6 +98,25 @@ two_up : (w : ℕ) → (w ≡ 0 → ⊥) → (w ≡ 1 → ⊥) → 2 ≤ w
 two_up zero h h' = absurd (h refl)
 two_up (suc zero) h h' = absurd (h' refl)
 two_up (suc (suc w)) h h' = omega arith
+
+-- with no length left but for the item's name nothing is found
+module _ (S : Snapshot) (x : FindPathCtx) where
+  location_one : (ls : List Level) (m : ℕ) (a : Option Scope) → location S x (search_local S x) 1 ls nothing m a ≡ nothing
+  unfolding location offer_entry offer length_left shorter_if find_path_for_module_local
+  location_one ls m None = refl
+  location_one ls m (Some e) = ap (λ c. offer_entry S x nothing c e) (local_more S x 0 ls m)
+
+  each_one : (ls : List Level) (item : Item) (done ms : List ℕ) → each_location S x (search_local S x) 1 ls item done nothing ms ≡ nothing
+  unfolding each_location
+  each_one ls item done [] = refl
+  each_one ls item done (m ∷ ms) =
+      ap (λ b. each_location S x (search_local S x) 1 ls item (done ++ (m ∷ [])) b ms)
+      (location_one (record { item = item; modules = done ++ (m ∷ []) } ∷ ls) m (importable_name S x item m)) ∙ each_one ls item (done ++ (m ∷ [])) ms
+
+  pub one_nothing : {left : ℕ} → left ≡ 1 → (ls : List Level) (item : Item) → nothing ≡ calculate_best_path_local S x (search_local S x) left ls item
+  unfolding calculate_best_path_local
+  one_nothing e ls item =
+      sym (ap (λ n. calculate_best_path_local S x (search_local S x) n ls item) e ∙ each_one ls item [] (find_local_import_locations S x.from.0 (visited ls item)))
 
 -- the module search
 module _ (S : Snapshot) (x : FindPathCtx) (left : ℕ) (ls : List Level) (m : ℕ) where
@@ -225,10 +245,6 @@ module _ (W A : List ℕ) (l : Layout) (x : FindPathCtx) (left : ℕ) (s : Stack
 pub entry_at : (W : List ℕ) (l : Layout) {a : Option ℕ} {h : ℕ} → EntryFits W l a → a ≡ Some h → ScopeFits (counts_in l) (scope_at W h)
 entry_at W l f e = subst (EntryFits W l) e f
 
--- the numbers are asked for
-pub numbers_ready : (W A : List ℕ) (l : Layout) (x : FindPathCtx) → Prepared W A l x → Ready W A l × (x.from.0 < l.modules)
-numbers_ready W A l x p = (record { reads = p.reads; area = p.area }, p.from)
-
 -- a search whose answer does not depend on the levels
 module _ (W A : List ℕ) (l : Layout) (x : FindPathCtx) (left : ℕ) (s : Stack) (y : Searchable W A l x left s) (m : ℕ)
     (known : m < l.modules) (t : Tight A s left m) where
@@ -354,56 +370,69 @@ module _ (W A : List ℕ) (l : Layout) (x : FindPathCtx) (left : ℕ) (s : Stack
               rows = a.rows;
             }
 
--- nothing is under way: the numbers are set, the walk is taken, and the rows are cleared
-module _ (W A₀ : List ℕ) (l : Layout) (x : FindPathCtx) (p : Prepared W A₀ l x) (N : List ℕ) (n : Bounded W A₀ l x N) where
-  pub numbers_reads : Reads W N l
-  numbers_reads = same_reads W A₀ N l n.tables p.reads
+-- nothing is under way: modules are marked, the walk is taken, the numbers are set, and the rows are cleared
+module _ (W A₀ : List ℕ) (l : Layout) (x : FindPathCtx) (p : Prepared W A₀ l x) (M : List ℕ) (m : Marked W A₀ l x M) where
+  pub marked_reads : Reads W M l
+  marked_reads = same_reads W A₀ M l m.tables p.reads
 
-  module _ (K : List ℕ) (w : Kept W N l x.from.0 K) (A : List ℕ) (v : Cleared K l.modules A) where
-    below_walk : take walk_at A ≡ take walk_at N
-    below_walk = take_less A K walk_at rows_at (omega arith) v.below ∙ w.below
+  module _ (K : List ℕ) (w : Kept W M l x.from.0 K) where
+    below_mark : take table_words K ≡ take table_words A₀
+    below_mark = take_less K M table_words walk_at (omega arith) w.below ∙ m.tables
 
-    tables_same : take table_words A ≡ take table_words A₀
-    tables_same = take_less A N table_words walk_at (omega arith) below_walk ∙ n.tables
+    pub walk_ready : length K ≡ length A₀ → Ready W K l
+    walk_ready z = record { reads = same_reads W A₀ K l below_mark p.reads; area = z ∙ p.area }
 
-    sn : snap_of W A l ≡ snap_of W A₀ l
-    sn = same_snap W A₀ A l tables_same p.reads
+    pub walk_marked : Marked W K l x K
+    walk_marked = marked_again W A₀ M K l x p.reads m w.below
 
-    numbers_same : (m : ℕ) → m < l.modules → distance A m ≡ distance N m
-    numbers_same m h =
-        let b = p.reads.tables.limited.modules in
-        agree A N walk_at below_walk (table_words + m) (omega (arith, h, b))
+    walk_same : snap_of W K l ≡ snap_of W A₀ l
+    walk_same = same_snap W A₀ K l below_mark p.reads
 
-    pub search_start : (left : ℕ) → left ≤ path_limit → length A ≡ length A₀
-        → Searchable W A l x left (record { top = walk_end; place = 0; depth = 0 })
-    search_start left h z =
-        record {
-          reads = same_reads W A₀ A l tables_same p.reads;
-          from = p.from;
-          area = z ∙ p.area;
-          tables = omega arith;
-          numbers = omega arith;
-          bounds = λ k m q o.
-              let a = numbers_same m q in
-              let b = n.bounds k m q (subst (λ (s : Snapshot). near s x [] k m ≡ true) sn o) in
-              omega (arith, a, b);
-          walked =
-              walked_at (snap_of W A l) x.from.0 K A
-              (subst (λ (s : Snapshot). Walked s x.from.0 K) (same_snap W A₀ N l n.tables p.reads ∙ sym sn) w.walked)
-              (take_less A K walk_end rows_at (omega arith) v.below);
-          rows = rows_none W A l x v.none;
-          space = omega arith;
-          deep = omega arith;
-          chain = chain_none A 0 walk_end;
-          under = omega arith;
-        }
+    pub walk_walked : Walked (snap_of W K l) x.from.0 K
+    walk_walked = subst (λ (s : Snapshot). Walked s x.from.0 K) (same_snap W A₀ M l m.tables p.reads ∙ sym walk_same) w.walked
 
-    pub search_done : (left : ℕ) (item : Item) (B : List ℕ) (r : Option Path)
-        → Answered W A l x walk_end (calculate_best_path_local (snap_of W A l) x (search_local (snap_of W A l) x) left (levels_of A 0 0) item) B r
-        → Chosen A₀ (best_local (snap_of W A₀ l) x left item) B r
-    unfolding best_local levels_of
-    search_done left item B r a =
-        record {
-          same = a.same ∙ ap (λ (s : Snapshot). best_local s x left item) sn;
-          tables = take_less B A table_words walk_end (omega arith) a.below ∙ tables_same;
-        }
+    module _ (N : List ℕ) (n : Bounded W K l x N) (A : List ℕ) (v : Cleared N l.modules A) where
+      tables_same : take table_words A ≡ take table_words A₀
+      tables_same = take_less A N table_words rows_at (omega arith) v.below ∙ n.tables ∙ below_mark
+
+      sn : snap_of W A l ≡ snap_of W A₀ l
+      sn = same_snap W A₀ A l tables_same p.reads
+
+      numbers_same : (i : ℕ) → i < l.modules → distance A i ≡ distance N i
+      numbers_same i h =
+          let b = p.reads.tables.limited.modules in
+          agree A N rows_at v.below (table_words + i) (omega (arith, h, b))
+
+      pub search_start : (left : ℕ) → left ≤ path_limit → length A ≡ length A₀
+          → Searchable W A l x left (record { top = walk_end; place = 0; depth = 0 })
+      search_start left h z =
+          record {
+            reads = same_reads W A₀ A l tables_same p.reads;
+            from = p.from;
+            area = z ∙ p.area;
+            tables = omega arith;
+            numbers = omega arith;
+            bounds = λ k i q o.
+                let a = numbers_same i q in
+                let b = n.bounds k i q (subst (λ (s : Snapshot). near s x [] k i ≡ true) (sn ∙ sym walk_same) o) in
+                omega (arith, a, b);
+            walked =
+                walked_at (snap_of W A l) x.from.0 N A
+                (subst (λ (s : Snapshot). Walked s x.from.0 N) (walk_same ∙ sym sn) (walked_beyond (snap_of W K l) x.from.0 K N walk_walked n.beyond))
+                (take_less A N walk_end rows_at (omega arith) v.below);
+            rows = rows_none W A l x v.none;
+            space = omega arith;
+            deep = omega arith;
+            chain = chain_none A 0 walk_end;
+            under = omega arith;
+          }
+
+      pub search_done : (left : ℕ) (item : Item) (B : List ℕ) (r : Option Path)
+          → Answered W A l x walk_end (calculate_best_path_local (snap_of W A l) x (search_local (snap_of W A l) x) left (levels_of A 0 0) item) B r
+          → Chosen A₀ (best_local (snap_of W A₀ l) x left item) B r
+      unfolding best_local levels_of
+      search_done left item B r a =
+          record {
+            same = a.same ∙ ap (λ (s : Snapshot). best_local s x left item) sn;
+            tables = take_less B A table_words walk_end (omega arith) a.below ∙ tables_same;
+          }

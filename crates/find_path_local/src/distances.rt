@@ -11,20 +11,23 @@ ghost use Rattle.accept.specs.Valid.{Each, ScopeFits};
 ghost use Rattle.hir_def.specs.Items.{map_no};
 ghost use Rattle.hir_def.specs.ItemScope.{entry_module};
 ghost use Rattle.hir_def.specs.Nameres.{ancestor_maps, prelude_of};
-ghost use Rattle.find_path_local.specs.distances.Distances.{distance, Named, Nearer, Opened, is_keyword};
-ghost use Rattle.find_path_local.specs.distances.Post.{Ready, Cleared, Rooted, Marked, Lowers, Steps, Turned, Round, Bounded};
+ghost use Rattle.find_path_local.specs.distances.Distances.{distance, Named, Nearer, Opened, is_keyword, walk};
+ghost use Rattle.find_path_levels.specs.walk_once.Walked.{Walked};
+ghost use Rattle.find_path_local.specs.distances.Post.{Ready, Cleared, Rooted, Marked, Lowers, Steps, Turned, Round, Bounded, Sifted};
 
+use crate::path_offers::importable_name;
 use accept::opened::Snapshot;
-use find_path_rules::rule_lookups::is_importable;
-use find_path_rules::{keyword_rule, may_be_in_scope};
+use find_path_levels::walk_once::Walk;
+use find_path_rules::{keyword_rule, may_be_in_scope, module_rules};
 use find_path_spec::FindPathCtx;
+use hir_def::Item;
 use hir_def::crate_graph::prelude_of;
 use hir_def::item_scope::modules_in_scope;
 use hir_def::items::first_of;
 use module_tree::modules::{block, map, own, parent, root};
 use snapshot::ids::{Area, Crate, ModuleId};
 use snapshot::reading::word;
-use snapshot::record::{prelude_target, scope_definition};
+use snapshot::record::{prelude_target, scope_definition, scope_owner};
 use snapshot::records::Records;
 use snapshot::table::Tables;
 
@@ -188,9 +191,10 @@ fn relax_entry(records: &Records, area: &mut Area, x: FindPathCtx, h: usize, d: 
         records: *records,
         area,
     };
-    if !is_importable(&db, x, h) {
+    let owner = scope_owner(records.words, h);
+    let Some(_) = importable_name(&db, x, Item::Mod(ModuleId(m)), owner) else {
         return false;
-    }
+    };
     area[at] = d as u32;
     true
 }
@@ -230,14 +234,16 @@ fn relax_at(records: &Records, area: &mut Area, x: FindPathCtx, m: ModuleId, d: 
     (d < w) & (w < Distances::FAR)
 }
 
-// The steps from all modules with the number d; whether there is more to do.
+// The steps from the modules of the walk with the number d; whether there is more to do.
 fn relax(records: &Records, area: &mut Area, x: FindPathCtx, d: usize) -> bool
-    requires { Ready records.now.words.now area.old records.now.layout × (x.from.0 < records.now.layout.modules) × (d < 16) }
-    ensures { Round (snap_by records.now area.old) x area.old records.now.layout.modules d area.new result }
+    requires { Ready records.now.words.now area.old records.now.layout × (x.from.0 < records.now.layout.modules) × (d < 16)
+        × Walked (snap_by records.now area.old) x.from.0 area.old }
+    ensures { Round (snap_by records.now area.old) x area.old (walk (snap_by records.now area.old) x) d area.new result }
 {
     let mut more = false;
-    for m in 0..records.layout.modules {
-        let r = relax_at(records, area, x, ModuleId(m), d);
+    for k in 0..word(area, Walk::COUNT) {
+        let m = ModuleId(word(area, Walk::AT + k));
+        let r = relax_at(records, area, x, m, d);
         more = more | r;
     }
     more
@@ -258,12 +264,50 @@ fn mark_rules(records: &Records, area: &mut Area, x: FindPathCtx)
     mark_scopes(records, area, x.from);
 }
 
-/// Sets the numbers of all modules.
-pub fn set_distances(records: &Records, area: &mut Area, x: FindPathCtx)
+// A module that is marked and that no rule answers for is far.
+fn sift_at(records: &Records, area: &mut Area, x: FindPathCtx, m: ModuleId)
+    requires { Ready records.now.words.now area.old records.now.layout × (x.from.0 < records.now.layout.modules) × (m.0 < records.now.layout.modules) }
+    ensures { Sifted records.now.words.now area.old records.now.layout x area.new }
+{
+    let at = Distances::AT + m.0;
+    if 1 < word(area, at) {
+        return;
+    }
+    let db = Snapshot {
+        records: *records,
+        area,
+    };
+    if module_rules(&db, x, false, m).is_some() {
+        return;
+    }
+    area[at] = Distances::FAR as u32;
+}
+
+// Those that no rule answers for are far again.
+fn sift(records: &Records, area: &mut Area, x: FindPathCtx)
     requires { Ready records.now.words.now area.old records.now.layout × (x.from.0 < records.now.layout.modules) }
-    ensures { Bounded records.now.words.now area.old records.now.layout x area.new }
+    ensures { Sifted records.now.words.now area.old records.now.layout x area.new }
+{
+    for m in 0..records.layout.modules {
+        sift_at(records, area, x, ModuleId(m));
+    }
+}
+
+/// Marks the modules that a rule answers for.
+pub fn mark_answers(records: &Records, area: &mut Area, x: FindPathCtx)
+    requires { Ready records.now.words.now area.old records.now.layout × (x.from.0 < records.now.layout.modules) }
+    ensures { Marked records.now.words.now area.old records.now.layout x area.new }
 {
     mark_rules(records, area, x);
+    sift(records, area, x);
+}
+
+/// Sets the numbers of all modules, where those that a rule answers for are marked and the walk is taken.
+pub fn set_distances(records: &Records, area: &mut Area, x: FindPathCtx)
+    requires { Ready records.now.words.now area.old records.now.layout × (x.from.0 < records.now.layout.modules)
+        × Marked records.now.words.now area.old records.now.layout x area.old × Walked (snap_by records.now area.old) x.from.0 area.old }
+    ensures { Bounded records.now.words.now area.old records.now.layout x area.new }
+{
     for d in 1..Distances::FAR - 1 {
         if !relax(records, area, x, d) {
             return;

@@ -20,8 +20,8 @@ pub mod distances;
 pub mod path_offers;
 pub mod tight_rows;
 
-use crate::distances::{Distances, set_distances};
-use crate::path_offers::{importable_name, offer_entry};
+use crate::distances::{Distances, mark_answers, set_distances};
+use crate::path_offers::{importable_name, is_named, offer_entry};
 use crate::tight_rows::{Rows, clear_rows, from_row, is_tight, row_of, row_place};
 use accept::opened::Snapshot;
 use find_path_choice::Choice;
@@ -172,6 +172,10 @@ fn local_at(
         (search_local (snap_by records.now area.old) x) left (levels_of area.old s.place s.depth) sought.item)
         area.new result }
 {
+    // Nothing is left for the path of a module.
+    if left == 1 {
+        return None;
+    }
     let top = s.top;
     let base = top + 3;
     let code = code_of(sought);
@@ -210,9 +214,17 @@ pub fn calculate_best_path_local(
     requires { Prepared records.now.words.now area.old records.now.layout x × Asked records.now.layout item × (0 < left) × (left ≤ path_limit) }
     ensures { Chosen area.old (best_local (snap_by records.now area.old) x left item) area.new result }
 {
+    let db = Snapshot {
+        records: *records,
+        area,
+    };
+    if !is_named(&db, x, item) {
+        return None;
+    }
     let sought = Sought { item };
-    set_distances(records, area, x);
+    mark_answers(records, area, x);
     take_walk(records, area, x.from, sought);
+    set_distances(records, area, x);
     clear_rows(area, records.layout.modules);
     let none = Stack {
         top: Walk::END,

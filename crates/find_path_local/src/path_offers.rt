@@ -1,7 +1,7 @@
 //! What a step of a search offers.
 //! What a step of a search offers: a name for a module's path, and the choice of the two.
 
-ghost use Rattle.std.specs.Prelude.{◌≡◌, ◌<◌, ◌^◌};
+ghost use Rattle.std.specs.Prelude.{◌≡◌, ℕ, None, false, ◌<◌, ◌≤◌, ◌^◌};
 ghost use Rattle.snapshot.specs.Records.{scope_at, import_at};
 ghost use Rattle.check_records.specs.record_rules.Stands.{counts_in};
 ghost use Rattle.accept.specs.Valid.{ScopeFits, ImportFits};
@@ -11,6 +11,7 @@ ghost use Rattle.find_path_choice.specs.Given.{given};
 ghost use Rattle.find_path_spec.specs.Conditions.{EntryFits};
 ghost use Rattle.find_path_spec.specs.Local.{offer as offer_of, offer_entry, is_importable, importable_name};
 ghost use Rattle.find_path_spec.specs.Charged.{offer_import};
+ghost use Rattle.find_path_local.specs.path_offers.Named.{names_importably};
 
 use accept::opened::Snapshot;
 use find_path_choice::Choice;
@@ -18,7 +19,10 @@ use find_path_choice::choices::{StepRule, step_by, unstably};
 use find_path_rules::rule_lookups::{Rule, entry_by, is_importable};
 use find_path_spec::FindPathCtx;
 use hir_def::Item;
+use hir_def::chain::{item_key, next_in_chain};
 use hir_def::import_map::is_unstable;
+use hir_def::items::item_at;
+use record_index::chains::Chain;
 use snapshot::ids::{ModuleId, Name};
 use snapshot::record::{import_name, scope_name};
 
@@ -34,6 +38,26 @@ pub fn importable_name(db: &Snapshot, x: FindPathCtx, item: Item, m: ModuleId) -
         return Some(h);
     }
     None
+}
+
+// Whether the scope entry with its head at a place is one for the item that the viewer can import.
+fn names_importably(db: &Snapshot, x: FindPathCtx, item: Item, h: usize) -> bool
+    requires { (x.from.0 < db.now.records.layout.modules) × (2 ≤ (scope_at db.now.records.words.now h).visibility → (scope_at db.now.records.words.now h).number < db.now.records.layout.modules) }
+    ensures { result ≡ names_importably (snap_in db.now) x item (scope_at db.now.records.words.now h) }
+{
+    if item_at(&db.records, h) != item {
+        return false;
+    }
+    is_importable(db, x, h)
+}
+
+/// Whether the viewer can import the item from some module; if not, no search through its modules finds it.
+pub fn is_named(db: &Snapshot, x: FindPathCtx, item: Item) -> bool
+    requires { x.from.0 < db.now.records.layout.modules }
+    ensures { result ≡ false → (m : ℕ) → importable_name (snap_in db.now) x item m ≡ None }
+{
+    let test = |h| names_importably(db, x, item, h);
+    next_in_chain(db, Chain::Items, item_key(item), 0, test).is_some()
 }
 
 // The better of the choice so far and the module's choice with the name, by a step, if it has one.

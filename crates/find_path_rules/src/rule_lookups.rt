@@ -17,7 +17,6 @@ use find_path_spec::FindPathCtx;
 use hir_def::item_scope::{is_declared, is_deprecated, is_for, name_of, preferred};
 use hir_def::items::{item_at, ns_of};
 use hir_def::nameres::entry_named;
-use hir_def::spans::scopes;
 use hir_def::{Item, Lookup};
 use snapshot::ids::{ModuleId, Visibility};
 use snapshot::record::{scope_name, scope_seen};
@@ -108,7 +107,7 @@ fn fresh_of(db: &Snapshot, x: FindPathCtx, m: ModuleId, item: Item, rule: Rule) 
 {
     let its = |h| is_for(&db.records, h, m, item);
     let fresh = |h| is_fresh(db, x, m, item, rule, h);
-    preferred(scopes(&db.records), its, fresh)
+    preferred(db, item, its, fresh)
 }
 
 /// The first of the module's entries for the item; by options bit 32 the first that isn't deprecated and passes the tests of the rule, if

@@ -780,6 +780,8 @@ module_routes =
     ∷ row 14 0 7 1 0 0 "found s 0 0 scope@325"
     ∷ row 20 0 1 1 0 9 "found y 0 0 scope@381"
     ∷ row 18 0 1 1 0 0 "found w 0 0 prelude@365"
+    -- the scope before the prelude
+    ∷ row 18 0 6 1 0 0 "found w 0 0 scope@365"
     ∷ row 18 0 0 1 0 9 "found a::e::w 1 0 scope@141 local@181 local@365"
     ∷ []
 

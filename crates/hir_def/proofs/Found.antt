@@ -3,7 +3,7 @@ use mathlib.Core.Path.{◌≡◌, refl, subst, ap, ◌∙◌}
 use Prim.Native.Nat.{ℕ, suc, ◌+◌}
 use native.Mathlib.Omega.{arith}
 use mathlib.Core.List.{List, [], ◌∷◌}
-use mathlib.Core.Bool.{Bool}
+use mathlib.Core.Bool.{Bool, true, false}
 use Rattle.std.specs.Prelude.{None, Some}
 use lib.ListN.{length, get_or}
 use Rattle.accept.specs.Valid.{Each, more}
@@ -56,3 +56,21 @@ reads_all p (x ∷ xs) e =
     by_test (p x)
     (λ t. let f : Some x ≡ None = rw (t, first_of) at e in let z : ◌≡◌ {A = ℕ} 0 1 = cc in absurd (omega arith))
     (λ t. rw (t, reads_of) (ap (λ n. n + 1) (reads_all p xs (rw (t, first_of) at e)) ∙ omega arith))
+
+-- what is found passes
+pub first_passes : {A : Type 0} (p : A → Bool) (xs : List A) (y : A) → first_of p xs ≡ Some y → p y ≡ true
+unfolding first_of
+first_passes p [] y e = let z : ◌≡◌ {A = ℕ} 0 1 = cc in absurd (omega arith)
+first_passes p (x ∷ xs) y e =
+    by_test (p x)
+    (λ t. let f : Some x ≡ Some y = rw (t, first_of) at e in let same : x ≡ y = cc in subst (λ z. p z ≡ true) same t)
+    (λ t. first_passes p xs y (rw (t, first_of) at e))
+
+-- none is found: none passes
+pub none_passes : {A : Type 0} (p : A → Bool) (xs : List A) → first_of p xs ≡ None → Each (λ y. p y ≡ false) xs
+unfolding first_of
+none_passes p [] e = Each.none
+none_passes p (x ∷ xs) e =
+    by_test (p x)
+    (λ t. let f : Some x ≡ None = rw (t, first_of) at e in let z : ◌≡◌ {A = ℕ} 0 1 = cc in absurd (omega arith))
+    (λ t. more t (none_passes p xs (rw (t, first_of) at e)))

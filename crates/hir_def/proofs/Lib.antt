@@ -1,3 +1,5 @@
+pub mod Ahead
+pub mod Along
 pub mod Ancestors
 pub mod Chains
 pub mod Climbs

@@ -2,14 +2,14 @@
 use Prim.Native.Nat.{ℕ, ◌+◌, ◌*◌, ◌≤◌, ◌<◌}
 use mathlib.Core.Path.{◌≡◌, sym, ap, ap₂, subst, ◌∙◌}
 use mathlib.Core.List.{List}
-use Rattle.snapshot.specs.Sizes.{dependency_size, import_size, extern_size}
-use Rattle.snapshot.specs.Records.{dependency_at, import_at, extern_at}
-use Rattle.snapshot.specs.Layouts.{dependency_base, import_base, extern_base, dependency_table, import_table, extern_table, snap_of}
+use Rattle.snapshot.specs.Sizes.{dependency_size, extern_size}
+use Rattle.snapshot.specs.Records.{dependency_at, extern_at}
+use Rattle.snapshot.specs.Layouts.{dependency_base, extern_base, dependency_table, extern_table, snap_of}
 use Rattle.snapshot.specs.declared.layout.Layout.{Layout}
-use Rattle.record_index.specs.Ranges.{Within, dependency_owner_at, import_owner_at, extern_owner_at}
+use Rattle.record_index.specs.Ranges.{Within, dependency_owner_at, extern_owner_at}
 use Rattle.accept.specs.Post.{Reads}
 use Rattle.accept.proofs.Valid.{accepted_valid}
-use Rattle.accept.proofs.Reading.{dependency_read, import_read, extern_read}
+use Rattle.accept.proofs.Reading.{dependency_read, extern_read}
 use Rattle.hir_def.specs.Spans.{Covers, Parted}
 use Rattle.hir_def.specs.declared.Part.{Part}
 use Rattle.hir_def.specs.declared.Span.{Span}
@@ -18,9 +18,6 @@ use Rattle.hir_def.specs.declared.Span.{Span}
 
 abbrev pub dependency_owner : List ℕ → ℕ → ℕ
 dependency_owner W h = (dependency_at W h).owner
-
-abbrev pub import_owner : List ℕ → ℕ → ℕ
-import_owner W h = (import_at W h).owner
 
 abbrev pub extern_owner : List ℕ → ℕ → ℕ
 extern_owner W h = (extern_at W h).owner
@@ -38,13 +35,6 @@ module _ (W A : List ℕ) (l : Layout) (r : Reads W A l) (c : ℕ) (p : Part) {s
       inside at (dependency_owner W) c p
       (f (dependency_owner_at W l) l.dependencies r.tables.index.dependencies
       (λ i h. (dependency_read W A l (accepted_valid W (snap_of W A l) r.same) i h).owner))
-
-  pub imports_inside : Covers s (import_base l) import_size l.imports → Parted l A import_table c p
-      → (i : ℕ) → i < s.count → import_owner W (s.base + s.size * i) ≡ c → (p.low ≤ i) × (i < p.high)
-  imports_inside at f =
-      inside at (import_owner W) c p
-      (f (import_owner_at W l) l.imports r.tables.index.imports
-      (λ i h. (import_read W A l (accepted_valid W (snap_of W A l) r.same) i h).owner))
 
   pub externs_inside : Covers s (extern_base l) extern_size l.externs → Parted l A extern_table c p
       → (i : ℕ) → i < s.count → extern_owner W (s.base + s.size * i) ≡ c → (p.low ≤ i) × (i < p.high)

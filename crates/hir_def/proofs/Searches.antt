@@ -44,6 +44,12 @@ module _ (P : ℕ → Bool → Type 0) (size b n k : ℕ) {r : Option Place} (x 
   unfolding NextBy
   passed_by e = subst (NextBy P size b n k) e x
 
+-- the first, where none is next
+pub none_first_by : (P : ℕ → Bool → Type 0) (size b n : ℕ) {r : Option Place} {o : Option ℕ} → NextBy P size b n 0 r → r ≡ None → o ≡ None
+    → FirstBy P size b n o
+unfolding FirstBy
+none_first_by P size b n x e q = subst (FirstBy P size b n) (sym q) (passed_by P size b n 0 x e)
+
 -- what a test answers of an owner's records, it answers of all where q passes no others
 pub only_agree : {R : Type 0} (owner : ℕ → ℕ) (c : ℕ) (q : R → Bool) (f : ℕ → R) (P : ℕ → Bool → Type 0)
     → ((h : ℕ) → (owner h ≡ c → ⊥) → q (f h) ≡ false)

@@ -1,10 +1,10 @@
 pub mod Finds
 pub mod Items
+pub mod Keys
 pub mod ItemScope
 pub mod Nameres
 pub mod ImportMap
 pub mod Entries
 pub mod Tests
 pub mod Spans
-pub mod item_scope
 pub mod crate_graph

@@ -5,23 +5,22 @@
 ghost use Rattle.std.specs.Prelude.{◌≡◌, List, Bool, true, false, ◌&&◌, ℕ, ◌+◌, ◌*◌, ◌<◌, ◌≤◌};
 ghost use Rattle.snapshot.specs.Sizes.{scope_size};
 ghost use Rattle.snapshot.specs.Records.{Scope, scope_at};
-ghost use Rattle.snapshot.specs.Layouts.{scope_base, records_of};
+ghost use Rattle.snapshot.specs.Layouts.{scope_base};
 ghost use Rattle.snapshot.specs.Laid.{snap_by};
-ghost use Rattle.record_index.specs.Index.{Follows};
+ghost use Rattle.record_index.specs.Index.{key_of, Follows};
+ghost use Rattle.record_index.specs.declared.chains.Chain.TheVariants.{Modules};
+ghost use Rattle.hir_def.specs.Keys.{scopes_in, Keyed};
 ghost use Rattle.hir_def.specs.ItemScope.{is_declared, is_deprecated, is_fresh, counts, is_for, is_named, is_module_entry, name_of, names_of, name_reads, names_reads};
 ghost use Rattle.hir_def.specs.ItemScope.{preferred, preferred_reads, get as entry_named};
 ghost use Rattle.hir_def.specs.Finds.{first_of, reads_of, or_first};
 ghost use Rattle.hir_def.specs.Nameres.{entry_in};
 ghost use Rattle.hir_def.specs.Entries.{entry_of, UpTo, NextOf};
 
-pub mod chain;
-
-use crate::finds::next_where;
-use crate::item_scope::chain::next_in_scope;
+use crate::chain::{first_in_chain, item_key, next_in_chain};
 use crate::items::{item_at, known_kind_of};
-use crate::spans::scopes;
-use crate::{Item, Lookup, Place, Span};
+use crate::{Item, Lookup, Place};
 use accept::opened::Snapshot;
+use record_index::chains::Chain;
 use snapshot::ids::{DefinitionKind, ModuleId, Name, Namespace};
 use snapshot::record::{scope_declared, scope_definition, scope_name, scope_ns, scope_owner};
 use snapshot::records::Records;
@@ -83,7 +82,7 @@ pub fn names_of(db: &Snapshot, m: ModuleId, item: Item, declared: bool) -> Looku
         × UpTo 8 (scope_base db.now.records.layout) db.now.records.layout.scopes result.entry result.read }
 {
     let test = |h| is_entry(&db.records, h, m, item, declared);
-    match next_in_scope(db, m, 0, test) {
+    match next_in_chain(db, Chain::Items, item_key(item), 0, test) {
         Some(found) => Lookup {
             entry: Some(found.head),
             read: found.number + 1,
@@ -104,44 +103,45 @@ pub fn name_of(db: &Snapshot, m: ModuleId, item: Item) -> Lookup
     names_of(db, m, item, false)
 }
 
-/// The first entry of a span that passes the second test, which passes no more than the first; where there is none, the first that passes the
-/// first test, with all records read.
-pub fn preferred<F: Fn(usize) -> bool, G: Fn(usize) -> bool>(span: Span, its: F, fresh: G) -> Lookup
-    requires its { (i : ℕ) → i < span.count → F.pre its (span.base + span.size * i) }
-    requires fresh { (i : ℕ) → i < span.count → G.pre fresh (span.base + span.size * i) }
-    ensures { (W : List ℕ) (q r : Scope → Bool) → ((h : ℕ) (t : Bool) → F.post its h t → t ≡ q (scope_at W h))
-        → ((h : ℕ) (t : Bool) → G.post fresh h t → t ≡ r (scope_at W h)) → ((y : Scope) → q y ≡ false → r y ≡ false)
-        → (entry_of scope_at W result.entry ≡ or_first (first_of r (records_of scope_at span.size W span.base span.count))
-        (first_of q (records_of scope_at span.size W span.base span.count)))
-        × (result.read ≡ reads_of r (records_of scope_at span.size W span.base span.count)) }
+/// The first entry that passes the second test, which passes no more than the first; where there is none, the first that passes the first test,
+/// with all records read. Both pass entries for the item alone.
+pub fn preferred<F: Fn(usize) -> bool, G: Fn(usize) -> bool>(
+    db: &Snapshot,
+    item: Item,
+    its: F,
+    fresh: G,
+) -> Lookup
+    requires its { (i : ℕ) → i < db.now.records.layout.scopes → F.pre its (scope_base db.now.records.layout + scope_size * i) }
+    requires fresh { (i : ℕ) → i < db.now.records.layout.scopes → G.pre fresh (scope_base db.now.records.layout + scope_size * i) }
+    ensures { (q r : Scope → Bool) → ((h : ℕ) (t : Bool) → F.post its h t → t ≡ q (scope_at db.now.records.words.now h))
+        → ((h : ℕ) (t : Bool) → G.post fresh h t → t ≡ r (scope_at db.now.records.words.now h)) → ((y : Scope) → q y ≡ false → r y ≡ false)
+        → Keyed db.now.records.words.now db.now.records.layout item q
+        → (entry_of scope_at db.now.records.words.now result.entry ≡ or_first (first_of r (scopes_in db.now.records.words.now db.now.records.layout))
+        (first_of q (scopes_in db.now.records.words.now db.now.records.layout)))
+        × (result.read ≡ reads_of r (scopes_in db.now.records.words.now db.now.records.layout)) }
 {
-    let Some(old) = next_where(span, 0, its) else {
+    let key = item_key(item);
+    let Some(it) = next_in_chain(db, Chain::Items, key, 0, fresh) else {
         return Lookup {
-            entry: None,
-            read: span.count,
+            entry: first_in_chain(db, Chain::Items, key, its),
+            read: db.records.layout.scopes,
         };
     };
-    match next_where(span, old.number, fresh) {
-        Some(it) => Lookup {
-            entry: Some(it.head),
-            read: it.number + 1,
-        },
-        None => Lookup {
-            entry: Some(old.head),
-            read: span.count,
-        },
+    Lookup {
+        entry: Some(it.head),
+        read: it.number + 1,
     }
 }
 
 /// The first of the entries of `names_of` that isn't deprecated; where there is none, the first of them, with all records read.
-pub fn fresh_of(records: &Records, m: ModuleId, item: Item, declared: bool) -> Lookup
-    ensures { ((A : List ℕ) → entry_of scope_at records.now.words.now result.entry ≡ preferred true (snap_by records.now A)
-        m.0 item (counts declared) (names_of (snap_by records.now A) m.0 item (counts declared)))
-        × ((A : List ℕ) (n : ℕ) → result.read ≡ preferred_reads true (snap_by records.now A) m.0 item (counts declared) n) }
+pub fn fresh_of(db: &Snapshot, m: ModuleId, item: Item, declared: bool) -> Lookup
+    ensures { ((A : List ℕ) → entry_of scope_at db.now.records.words.now result.entry ≡ preferred true (snap_by db.now.records A)
+        m.0 item (counts declared) (names_of (snap_by db.now.records A) m.0 item (counts declared)))
+        × ((A : List ℕ) (n : ℕ) → result.read ≡ preferred_reads true (snap_by db.now.records A) m.0 item (counts declared) n) }
 {
-    let its = |h| is_entry(records, h, m, item, declared);
-    let fresh = |h| is_fresh(records, h, m, item, declared);
-    preferred(scopes(records), its, fresh)
+    let its = |h| is_entry(&db.records, h, m, item, declared);
+    let fresh = |h| is_fresh(&db.records, h, m, item, declared);
+    preferred(db, item, its, fresh)
 }
 
 /// The entry of `names_of`; by options bit 32 that of `fresh_of`.
@@ -151,7 +151,7 @@ pub fn entry_in(db: &Snapshot, m: ModuleId, item: Item, declared: bool, fresh: b
         (counts declared) (names_reads (snap_by db.now.records A) m.0 item (counts declared))) }
 {
     if fresh {
-        return fresh_of(&db.records, m, item, declared);
+        return fresh_of(db, m, item, declared);
     }
     names_of(db, m, item, declared)
 }
@@ -165,13 +165,12 @@ pub fn is_named(words: &[u32], h: usize, m: ModuleId, ns: usize, name: Name) -> 
 }
 
 /// The module's entry with that namespace and name.
-// What is left of a search in a scope is the call of `next_in_scope` with a test.
+// What is left of a search in a scope is the call of `first_in_chain` with a test.
 pub fn get(db: &Snapshot, m: ModuleId, ns: usize, name: Name) -> Option<usize>
     ensures { (A : List ℕ) → entry_of scope_at db.now.records.words.now result ≡ entry_named (snap_by db.now.records A) m.0 ns name.0 }
 {
     let test = |h| is_named(db.records.words, h, m, ns, name);
-    let found = next_in_scope(db, m, 0, test)?;
-    Some(found.head)
+    first_in_chain(db, Chain::Modules, m.0, test)
 }
 
 /// Whether the entry with its head at a place is the module's, for a module in types.
@@ -187,10 +186,10 @@ pub fn is_module_entry(records: &Records, h: usize, m: ModuleId) -> bool
 
 /// The next of the module's entries for a module in types, from the entry number k on, where k is 0 or follows one of its entries.
 pub fn modules_in_scope(db: &Snapshot, k: usize, m: ModuleId) -> Option<Place>
-    requires { (k ≤ db.now.records.layout.scopes) × Follows db.now.records.words.now db.now.records.layout m.0 k }
+    requires { (k ≤ db.now.records.layout.scopes) × Follows (key_of db.now.records.words.now db.now.records.layout Modules) m.0 k }
     ensures { (A : List ℕ) → NextOf (is_module_entry (snap_by db.now.records A) m.0) scope_at scope_size
         db.now.records.words.now (scope_base db.now.records.layout) db.now.records.layout.scopes k result }
 {
     let test = |h| is_module_entry(&db.records, h, m);
-    next_in_scope(db, m, k, test)
+    next_in_chain(db, Chain::Modules, m.0, k, test)
 }

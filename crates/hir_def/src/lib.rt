@@ -4,6 +4,7 @@
 
 ghost use Rattle.std.specs.Prelude.{◌+◌, ◌*◌, ◌^◌, ◌<◌};
 
+pub mod chain;
 pub mod crate_graph;
 pub mod finds;
 pub mod import_map;

@@ -84,7 +84,8 @@ fn is_plain(words: &[u32], at: usize) -> bool
 pub fn is_raw(words: &[u32], at: usize, edition: usize) -> bool
     ensures { result ≡ is_raw edition (name_at words.now at) }
 {
-    let keyword = is_keyword(words, at, edition);
-    let plain = is_plain(words, at);
-    keyword & !plain
+    if !is_keyword(words, at, edition) {
+        return false;
+    }
+    !is_plain(words, at)
 }

@@ -1,2 +1,4 @@
 pub mod Chaining
+pub mod Halving
+pub mod Keying
 pub mod Ranging

@@ -1,19 +1,23 @@
 -- The laws of the ranges.
-use Prim.Native.Nat.{ℕ, ◌+◌, ◌-◌, ◌*◌, ◌≤◌, ◌<◌}
-use mathlib.Core.Path.{◌≡◌, refl, sym, ap, subst, ◌∙◌}
+use Prim.Native.Nat.{ℕ, ◌+◌, ◌*◌, ◌/◌, ◌≤◌, ◌<◌}
+use mathlib.Core.Path.{◌≡◌, sym, ap, ◌∙◌}
 use mathlib.Core.List.{List, ◌++◌}
 use native.Mathlib.Omega.{arith}
 use borrow.Rule.Slice.PartMut.{put_mid}
 use Rattle.std.proofs.lemmas.Slice.{take-put_mid_below}
 use lib.ListN.{length, get_or, set, take, drop, replicate, length-set, length-replicate, get_or-append, get_or-replicate}
 use lib.Seq.{get_or-set_same, get_or-set_other, take-set-le, get_or-append-add, length-take-le, get_or-take, take-take}
-use Rattle.snapshot.specs.Limits.{module_limit, crate_limit}
-use Rattle.snapshot.specs.Layouts.{row_words, scope_limit, dependency_table, import_table, extern_table, table_words}
+use Rattle.snapshot.specs.Limits.{word_limit, crate_limit}
+use Rattle.snapshot.specs.Layouts.{word_count, row_words, head_table, link_table, dependency_table, extern_table, table_words}
 use Rattle.snapshot.specs.declared.layout.Layout.{Layout}
-use Rattle.record_index.specs.Index.{Sized, Index}
-use Rattle.record_index.specs.Ranges.{low_at, high_at, Within, Ranged, dependency_owner_at, import_owner_at, extern_owner_at}
-use Rattle.record_index.specs.Post.{Emptied, Ranging, Noted, Made, Filled, Built}
-use Rattle.record_index.proofs.Chaining.{by_same, indexed_stays}
+use Rattle.record_index.specs.Halves.{half_at}
+use Rattle.record_index.specs.Index.{keys_of, heads_of, links_of, count_of, key_of, Chains, Sized, Index}
+use Rattle.record_index.specs.declared.chains.Chain.{Chain}
+use Rattle.record_index.specs.declared.chains.Chain.TheVariants.{Modules, Items, Imports}
+use Rattle.record_index.specs.Ranges.{low_at, high_at, Ranged, dependency_owner_at, extern_owner_at}
+use Rattle.record_index.specs.Post.{Emptied, Ranging, Noted, Room, Made, Filled, Built}
+use Rattle.record_index.proofs.Halving.{by_same, half_same}
+use Rattle.record_index.proofs.Chaining.{chained_stays}
 
 -- clearing
 pub emptied_all : (A ys : List ℕ) (at n k j : ℕ) → k ≡ n → j ≡ n → ys ≡ replicate j 0 → n ≤ crate_limit → at + 2 * crate_limit ≤ length A
@@ -167,44 +171,83 @@ same_below at A B e i h = sym (get_or-take at B i 0 h) ∙ ap (λ (x : List ℕ)
 below_less : (at to : ℕ) (A B : List ℕ) → at ≤ to → take to B ≡ take to A → take at B ≡ take at A
 below_less at to A B h e = sym (take-take at to B h) ∙ ap (take at) e ∙ take-take at to A h
 
--- the four parts, one after the other
-module _ (W A₀ : List ℕ) (l : Layout) (z : Sized W l) {A B C D : List ℕ} (a : Made W A₀ l 0 A)
-    (b : Filled A (dependency_owner_at W l) l.dependencies l.crates dependency_table B)
-    (c : Filled B (import_owner_at W l) l.imports l.crates import_table C)
-    (d : Filled C (extern_owner_at W l) l.externs l.crates extern_table D)
+-- the halves of words up to a place
+halves_below : (at : ℕ) (A B : List ℕ) → take at B ≡ take at A → (i : ℕ) → i < 2 * at → half_at B i ≡ half_at A i
+halves_below at A B e i h = half_same A B i (same_below at A B e (i / 2) (omega arith))
+
+-- a chain stands in the halves of the index before the ranges, each apart from the others
+
+chain_in : (l : Layout) → word_count l ≤ word_limit → (c : Chain)
+    → (2 * head_table ≤ heads_of c) × (heads_of c + keys_of c ≤ 2 * link_table) × (2 * link_table ≤ links_of l c)
+    × (links_of l c + count_of l c ≤ 2 * dependency_table)
+chain_in l h Modules = (omega arith, omega arith, omega arith, omega arith)
+chain_in l h Items = (omega arith, omega arith, omega arith, omega arith)
+chain_in l h Imports = (omega arith, omega arith, omega arith, omega arith)
+
+pub chain_room : (l : Layout) → word_count l ≤ word_limit → (c : Chain) (words : ℕ) → table_words ≤ words
+    → Room (heads_of c) (keys_of c) (links_of l c) (count_of l c) words
+chain_room l h c words room =
+    let p = chain_in l h c in
+    record { from = omega (arith, p.0); apart = omega (arith, p.1, p.2); fits = omega (arith, p.3); few = omega (arith, p.2, p.3); small = omega (arith, p.3) }
+
+-- the keys of accepted records are keys of their chain
+pub keys_known : (W : List ℕ) (l : Layout) → Sized W l → (c : Chain) (k : ℕ) → k < count_of l c → key_of W l c k < keys_of c
+keys_known W l z Modules k h = omega (arith, z.owners k h, z.few)
+keys_known W l z Items k h = omega arith
+keys_known W l z Imports k h = omega arith
+
+-- all chains and the ranges, one after the other
+module _ (W A₀ : List ℕ) (l : Layout) (z : Sized W l) {A B C D E : List ℕ} (a : Made W A₀ l Modules A) (b : Made W A l Items B)
+    (c : Made W B l Imports C)
+    (d : Filled C (dependency_owner_at W l) l.dependencies l.crates dependency_table D)
+    (e : Filled D (extern_owner_at W l) l.externs l.crates extern_table E)
   where
-    low : take dependency_table D ≡ take dependency_table A
-    low = below_less dependency_table extern_table C D (omega arith) d.below ∙ below_less dependency_table import_table B C (omega arith) c.below ∙ b.below
+    low : take dependency_table E ≡ take dependency_table C
+    low = below_less dependency_table extern_table D E (omega arith) e.below ∙ d.below
 
-    middle : take import_table D ≡ take import_table B
-    middle = below_less import_table extern_table C D (omega arith) d.below ∙ c.below
+    late : (i : ℕ) → i < 2 * dependency_table → half_at E i ≡ half_at C i
+    late i h = halves_below dependency_table C E low i h
 
-    pub built_all : Built W A₀ l D
+    built_chains : (k : Chain) → Chains W l E k
+    built_chains Modules =
+        chained_stays (key_of W l Modules) _ _ _ _ A E
+        (λ i p q. late i (omega arith) ∙ c.beside.others i (λ s t. omega arith) (λ s t. omega arith) ∙ b.beside.others i (λ s t. omega arith) (λ s t. omega arith))
+        (λ i p q. late i (omega (arith, z.short)) ∙ c.beside.others i (λ s t. omega arith) (λ s t. omega arith) ∙ b.beside.others i (λ s t. omega arith) (λ s t. omega arith))
+        a.chained
+    built_chains Items =
+        chained_stays (key_of W l Items) _ _ _ _ B E
+        (λ i p q. late i (omega arith) ∙ c.beside.others i (λ s t. omega arith) (λ s t. omega arith))
+        (λ i p q. late i (omega (arith, z.short)) ∙ c.beside.others i (λ s t. omega arith) (λ s t. omega arith)) b.chained
+    built_chains Imports =
+        chained_stays (key_of W l Imports) _ _ _ _ C E (λ i p q. late i (omega arith)) (λ i p q. late i (omega (arith, z.short))) c.chained
+
+    pub built_all : Built W A₀ l E
     built_all =
         record {
           index =
               record {
-                scopes = indexed_stays W A D l z.few (omega (arith, z.short)) (λ i p q. same_below dependency_table A D low i q) a.indexed;
+                chains = built_chains;
+                keys = keys_known W l z;
                 dependencies =
-                    ranged_stays (dependency_owner_at W l) l.dependencies l.crates dependency_table B D z.crates
-                    (λ i p q. same_below import_table B D middle i (omega arith)) b.ranged;
-                imports =
-                    ranged_stays (import_owner_at W l) l.imports l.crates import_table C D z.crates
-                    (λ i p q. same_below extern_table C D d.below i (omega arith)) c.ranged;
-                externs = d.ranged;
+                    ranged_stays (dependency_owner_at W l) l.dependencies l.crates dependency_table D E z.crates
+                    (λ i p q. same_below extern_table D E e.below i (omega arith)) d.ranged;
+                externs = e.ranged;
               };
-          below = below_less row_words dependency_table A D (omega arith) low ∙ a.below;
+          below = below_less row_words dependency_table C E (omega arith) low ∙ c.beside.below ∙ b.beside.below ∙ a.beside.below;
         }
 
 -- the index stays where its words do
-pub index_stays : (W A B : List ℕ) (l : Layout) → l.modules ≤ module_limit → l.crates ≤ crate_limit → l.scopes ≤ scope_limit
+pub index_stays : (W A B : List ℕ) (l : Layout) → word_count l ≤ word_limit → l.crates ≤ crate_limit
     → ((i : ℕ) → row_words ≤ i → i < table_words → get_or B i 0 ≡ get_or A i 0) → Index W l A → Index W l B
-index_stays W A B l few crates room same x =
+index_stays W A B l short crates same x =
     record {
-      scopes = indexed_stays W A B l few room (λ i p q. same i (omega arith) (omega arith)) x.scopes;
+      chains = λ c.
+          let p = chain_in l short c in
+          chained_stays (key_of W l c) _ _ _ _ A B (λ i u v. half_same A B i (same (i / 2) (omega (arith, p.0)) (omega (arith, p.1, p.2, p.3))))
+          (λ i u v. half_same A B i (same (i / 2) (omega (arith, p.2)) (omega (arith, p.3)))) (x.chains c);
+      keys = x.keys;
       dependencies =
           ranged_stays (dependency_owner_at W l) l.dependencies l.crates dependency_table A B crates (λ i p q. same i (omega arith) (omega arith))
           x.dependencies;
-      imports = ranged_stays (import_owner_at W l) l.imports l.crates import_table A B crates (λ i p q. same i (omega arith) (omega arith)) x.imports;
       externs = ranged_stays (extern_owner_at W l) l.externs l.crates extern_table A B crates (λ i p q. same i (omega arith) (omega arith)) x.externs;
     }

@@ -1,3 +1,4 @@
+pub mod Halves
 pub mod Index
 pub mod Post
 pub mod Ranges

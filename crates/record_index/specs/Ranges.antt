@@ -1,9 +1,9 @@
 -- The records of each crate, of a kind whose records have an owner: from its first to its last.
 use Rattle.std.specs.Prelude.{ℕ, ◌+◌, ◌*◌, ◌≤◌, ◌<◌, ◌≡◌, List, get_or}
 use Rattle.snapshot.specs.Limits.{crate_limit}
-use Rattle.snapshot.specs.Sizes.{dependency_size, import_size, extern_size}
-use Rattle.snapshot.specs.Records.{dependency_at, import_at, extern_at}
-use Rattle.snapshot.specs.Layouts.{dependency_base, import_base, extern_base}
+use Rattle.snapshot.specs.Sizes.{dependency_size, extern_size}
+use Rattle.snapshot.specs.Records.{dependency_at, extern_at}
+use Rattle.snapshot.specs.Layouts.{dependency_base, extern_base}
 use Rattle.snapshot.specs.declared.layout.Layout.{Layout}
 
 -- the words that a table has for the crate c
@@ -26,9 +26,6 @@ Ranged owner n crates at A = (c : ℕ) → c < crates → Within owner n c (low_
 
 abbrev pub dependency_owner_at : List ℕ → Layout → ℕ → ℕ
 dependency_owner_at W l k = (dependency_at W (dependency_base l + dependency_size * k)).owner
-
-abbrev pub import_owner_at : List ℕ → Layout → ℕ → ℕ
-import_owner_at W l k = (import_at W (import_base l + import_size * k)).owner
 
 abbrev pub extern_owner_at : List ℕ → Layout → ℕ → ℕ
 extern_owner_at W l k = (extern_at W (extern_base l + extern_size * k)).owner

@@ -1,52 +1,79 @@
-//! The index of accepted words: each module's scope records, and where each crate's dependencies, imports and externs stand.
+//! The index of accepted words: chains of scope records by module and by item, of imports by crate and item, and where each crate's dependencies and
+//! externs stand.
 //! Uses `snapshot` alone.
 #![tactic(auto)]
 
 ghost use Rattle.std.specs.Prelude.{◌≡◌, ◌+◌, ◌≤◌, ◌<◌, ◌^◌, length};
-ghost use Rattle.snapshot.specs.Limits.{module_limit};
-ghost use Rattle.snapshot.specs.Layouts.{table_words, dependency_table, import_table, extern_table};
-ghost use Rattle.record_index.specs.Index.{Indexed, Sized};
-ghost use Rattle.record_index.specs.Ranges.{dependency_owner_at, import_owner_at, extern_owner_at};
-ghost use Rattle.record_index.specs.Post.{Cleared, Made, Filled, Built};
+ghost use Rattle.snapshot.specs.Limits.{word_limit};
+ghost use Rattle.snapshot.specs.Layouts.{word_count, table_words, dependency_table, extern_table};
+ghost use Rattle.record_index.specs.Index.{item_number, count_of, key_of, Sized};
+ghost use Rattle.record_index.specs.Ranges.{dependency_owner_at, extern_owner_at};
+ghost use Rattle.record_index.specs.Post.{Made, Filled, Built};
 
+pub mod chains;
+pub mod halves;
 mod ranges;
 
+use crate::chains::{Chain, chain_records, import_key};
 use crate::ranges::range_records;
+use snapshot::ids::{DefinitionId, DefinitionKind, Namespace};
 use snapshot::kind::Size;
-use snapshot::record::{dependency_owner, extern_owner, import_owner, scope_owner};
+use snapshot::record::{
+    definition_first, definition_kind, dependency_owner, extern_owner, import_definition,
+    import_ns, import_owner, scope_definition, scope_ns, scope_owner,
+};
 use snapshot::records::Records;
 use snapshot::table::Tables;
 
-// The chains of the first `count` modules are empty.
-// The area is passed whole, since `Cleared` says that its other words stay.
-fn clear_heads(area: &mut [u32], count: usize, end: usize)
-    requires { (table_words ≤ length area.old) × (count ≤ module_limit) × (end < 2 ^ 32) }
-    ensures { Cleared area.old end count area.new }
+// What the item of a namespace and a definition is known by.
+fn item_number(records: &Records, ns: usize, d: DefinitionId) -> usize
+    requires { (d.0 < records.now.layout.definitions) × (word_count records.now.layout ≤ word_limit) }
+    ensures { result ≡ item_number records.now.words.now records.now.layout ns d.0 }
 {
-    area[Tables::FIRSTS..Tables::FIRSTS + count].fill(end as u32);
-}
-
-// The record k goes to the front of its module's chain.
-fn link(records: &Records, area: &mut [u32], k: usize)
-    requires { (table_words ≤ length area.old) × Sized records.now.words.now records.now.layout × (k < records.now.layout.scopes) × Indexed records.now.words.now records.now.layout (k + 1) area.old }
-    ensures { Made records.now.words.now area.old records.now.layout k area.new }
-{
-    let base = records.layout.scope_base();
-    let owner = scope_owner(records.words, base + Size::SCOPE * k);
-    let at = Tables::FIRSTS + owner.0;
-    area[Tables::LINKS + k] = area[at];
-    area[at] = k as u32;
-}
-
-// Chains all records, from the last on.
-fn index_scopes(records: &Records, area: &mut [u32])
-    requires { (table_words ≤ length area.old) × Sized records.now.words.now records.now.layout }
-    ensures { Made records.now.words.now area.old records.now.layout 0 area.new }
-{
-    clear_heads(area, records.layout.modules, records.layout.scopes);
-    for k in (0..records.layout.scopes).rev() {
-        link(records, area, k);
+    let h = records.layout.definition_base() + Size::DEFINITION * d.0;
+    if (ns == Namespace::TYPES)
+        & (definition_kind(records.words, h) == DefinitionKind::Module as usize)
+    {
+        return definition_first(records.words, h);
     }
+    d.0
+}
+
+// The key of the record k.
+fn key(records: &Records, chain: Chain, k: usize) -> usize
+    requires { Sized records.now.words.now records.now.layout × (k < count_of records.now.layout chain) }
+    ensures { result ≡ key_of records.now.words.now records.now.layout chain k }
+{
+    let words = records.words;
+    match chain {
+        Chain::Modules => scope_owner(words, records.layout.scope_base() + Size::SCOPE * k).0,
+        Chain::Items => {
+            let h = records.layout.scope_base() + Size::SCOPE * k;
+            item_number(records, scope_ns(words, h), scope_definition(words, h)) % Tables::ITEM_KEYS
+        }
+        Chain::Imports => {
+            let h = records.layout.import_base() + Size::IMPORT * k;
+            let n = item_number(records, import_ns(words, h), import_definition(words, h));
+            import_key(import_owner(words, h), n)
+        }
+    }
+}
+
+// Chains all records.
+fn make_chain(records: &Records, area: &mut [u32], chain: Chain)
+    requires { (table_words ≤ length area.old) × Sized records.now.words.now records.now.layout }
+    ensures { Made records.now.words.now area.old records.now.layout chain area.new }
+{
+    let layout = records.layout;
+    let its = |k| key(records, chain, k);
+    chain_records(
+        area,
+        chain.heads(),
+        chain.keys(),
+        chain.links(&layout),
+        chain.count(&layout),
+        its,
+    );
 }
 
 // Of a kind that belongs to crates: where each crate's records stand.
@@ -62,21 +89,6 @@ fn range_dependencies(records: &Records, area: &mut [u32])
         Tables::DEPENDENCIES,
         records.layout.crates,
         records.layout.dependencies,
-        owner,
-    );
-}
-
-fn range_imports(records: &Records, area: &mut [u32])
-    requires { (table_words ≤ length area.old) × Sized records.now.words.now records.now.layout }
-    ensures { Filled area.old (import_owner_at records.now.words.now records.now.layout) records.now.layout.imports records.now.layout.crates import_table area.new }
-{
-    let base = records.layout.import_base();
-    let owner = |k| import_owner(records.words, base + Size::IMPORT * k);
-    range_records(
-        area,
-        Tables::IMPORTS,
-        records.layout.crates,
-        records.layout.imports,
         owner,
     );
 }
@@ -101,8 +113,9 @@ pub fn index_records(records: &Records, area: &mut [u32])
     requires { (table_words ≤ length area.old) × Sized records.now.words.now records.now.layout }
     ensures { Built records.now.words.now area.old records.now.layout area.new }
 {
-    index_scopes(records, area);
+    make_chain(records, area, Chain::Modules);
+    make_chain(records, area, Chain::Items);
+    make_chain(records, area, Chain::Imports);
     range_dependencies(records, area);
-    range_imports(records, area);
     range_externs(records, area);
 }

@@ -65,8 +65,8 @@ no_records =
     }
 
 -- the tables of the work area: a name's head; a module's map, its map's head and its parent +1; a map's root; a crate's own map +1; and the
--- index: a module's first scope record and each record's next one of its module, and of the dependencies, imports and externs a crate's first and
--- one past its last. The first stands at 0; here are the first words of the others, those before the index, and the words of all
+-- index: chains of records with one key, and of the dependencies and externs a crate's first and one past its last. The first stands at 0; here
+-- are the first words of the others, those before the index, and the words of all
 
 abbrev pub module_table : ℕ
 module_table = name_limit
@@ -81,11 +81,20 @@ crate_table = root_table + module_limit
 abbrev pub row_words : ℕ
 row_words = crate_table + crate_limit
 
-abbrev pub first_table : ℕ
-first_table = row_words
+-- chains: so many keys have the items of scope records, and those of imports
+abbrev pub item_keys : ℕ
+item_keys = 512
 
+abbrev pub import_keys : ℕ
+import_keys = 256
+
+-- half a word a key
+abbrev pub head_table : ℕ
+head_table = row_words
+
+-- half a word a record of a chain
 abbrev pub link_table : ℕ
-link_table = first_table + module_limit
+link_table = head_table + (module_limit + item_keys + import_keys) / 2
 
 -- so many scope records fit into the words
 abbrev pub scope_limit : ℕ
@@ -94,11 +103,8 @@ scope_limit = word_limit / scope_size
 abbrev pub dependency_table : ℕ
 dependency_table = link_table + scope_limit
 
-abbrev pub import_table : ℕ
-import_table = dependency_table + 2 * crate_limit
-
 abbrev pub extern_table : ℕ
-extern_table = import_table + 2 * crate_limit
+extern_table = dependency_table + 2 * crate_limit
 
 abbrev pub table_words : ℕ
 table_words = extern_table + 2 * crate_limit

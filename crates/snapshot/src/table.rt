@@ -11,6 +11,13 @@ use crate::reading::word;
 pub struct Tables;
 
 impl Tables {
+    /// The keys of chains: modules, rests of scope records' items, rests of imports' items.
+    pub const KEYS: usize = ModuleId::LIMIT + Tables::ITEM_KEYS + Tables::IMPORT_KEYS;
+
+    pub const ITEM_KEYS: usize = 512;
+
+    pub const IMPORT_KEYS: usize = 256;
+
     /// A word a name: its head.
     pub const NAMES: usize = 0;
     /// Three words a module: its map, the map's head, its parent +1.
@@ -20,19 +27,17 @@ impl Tables {
     /// A word a crate: its own map +1.
     pub const CRATES: usize = Tables::ROOTS + ModuleId::LIMIT;
 
-    /// The first word past what the check writes as it goes; the index of the scope records follows.
+    /// The first word past what the check writes as it goes; the index follows.
     pub const ROWS: usize = Tables::CRATES + Crate::LIMIT;
-    /// A word a module: its first scope record, or the number of all of them.
-    pub const FIRSTS: usize = Tables::ROWS;
-    /// A word a scope record: the next one of its module, or the number of all.
-    pub const LINKS: usize = Tables::FIRSTS + ModuleId::LIMIT;
+    /// Half a word a key of a chain: the key's first record, or the number of all.
+    pub const HEADS: usize = Tables::ROWS;
+    /// Half a word a record of a chain: the next one with its key, or the number of all.
+    pub const LINKS: usize = Tables::HEADS + Tables::KEYS / 2;
 
     /// Two words a crate: its first dependency, and one past its last, or 0 where it has none. The second words stand after all the first.
     pub const DEPENDENCIES: usize = Tables::LINKS + WordCount::SNAPSHOT / Size::SCOPE;
-    /// The same of imports.
-    pub const IMPORTS: usize = Tables::DEPENDENCIES + 2 * Crate::LIMIT;
     /// The same of externs.
-    pub const EXTERNS: usize = Tables::IMPORTS + 2 * Crate::LIMIT;
+    pub const EXTERNS: usize = Tables::DEPENDENCIES + 2 * Crate::LIMIT;
 
     pub const END: usize = Tables::EXTERNS + 2 * Crate::LIMIT;
 }

@@ -11,7 +11,9 @@ use Rattle.snapshot.specs.Limits.{area_limit}
 use Rattle.snapshot.specs.Refusals.{batch_refusal}
 use Rattle.snapshot.specs.Layouts.{word_count, table_words}
 use Rattle.snapshot.specs.declared.layout.Layout.{Layout}
-use Rattle.record_index.specs.Index.{First}
+use Rattle.record_index.specs.Index.{keys_of, count_of, key_of, Chains}
+use Rattle.record_index.specs.declared.chains.Chain.{Chain}
+use Rattle.record_index.specs.declared.chains.Chain.TheVariants.{Modules, Items, Imports}
 use Rattle.accept.specs.Post.{Checked, Tables, Reads, Judged}
 use Rattle.std.specs.Prelude.{Ok}
 use Rattle.answer.specs.checked.Questioned.{Questioned}
@@ -33,8 +35,16 @@ module _ (W A : List ℕ) (l : Layout) (t : Tables W A l) where
   names_words = omega (arith, t.whole)
 
   -- the latest map is the check's alone
-  first_without : (m k : ℕ) {v : ℕ} → First W l m k v → First W (layout_with l.text (counted l)) m k v
-  first_without m k f = record { from = f.from; most = f.most; its = f.its; least = f.least }
+  chains_without : (c : Chain) → Chains W l A c → Chains W (layout_with l.text (counted l)) A c
+  chains_without Modules x = x
+  chains_without Items x = x
+  chains_without Imports x = x
+
+  keys_without : (c : Chain) → ((k : ℕ) → k < count_of l c → key_of W l c k < keys_of c)
+      → (k : ℕ) → k < count_of (layout_with l.text (counted l)) c → key_of W (layout_with l.text (counted l)) c k < keys_of c
+  keys_without Modules x = x
+  keys_without Items x = x
+  keys_without Imports x = x
 
   tables_without : Tables W A (layout_with l.text (counted l))
   tables_without =
@@ -59,12 +69,9 @@ module _ (W A : List ℕ) (l : Layout) (t : Tables W A l) where
         owned = t.owned;
         index =
             record {
-              scopes = record {
-                heads = λ m h. first_without m 0 (t.index.scopes.heads m h);
-                links = λ j g h. first_without _ (j + 1) (t.index.scopes.links j g h);
-              };
+              chains = λ c. chains_without c (t.index.chains c);
+              keys = λ c. keys_without c (t.index.keys c);
               dependencies = t.index.dependencies;
-              imports = t.index.imports;
               externs = t.index.externs;
             };
       }

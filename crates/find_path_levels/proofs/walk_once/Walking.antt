@@ -60,7 +60,7 @@ module _ (W A₀ : List ℕ) (l : Layout) (from : ℕ) (s : Stack) (item : Item)
       record {
         run = c.run ∙ ap (λ z. run_at A₀ walk_at z) e ∙ w.same ∙ walk_same (snap_of W A₀ l) from _ _ (λ m. sym (off m));
         below = c.below;
-        above = c.above;
+        above = λ i h. c.above i (omega arith);
         few = omega (arith, e, w.few);
       }
 

@@ -6,7 +6,7 @@ use Rattle.find_path_levels.specs.Levels.{levels_of}
 use Rattle.find_path_levels.proofs.Stacks.{chain_wider}
 use Rattle.find_path_local.proofs.Nests.{room, head_reads, head_walked, head_space, head_chain, start_few, nesting_start}
 use Rattle.find_path_local.proofs.Nests.{loop_size, nesting_call, nesting_known, nesting_next, nesting_done}
-use Rattle.find_path_local.proofs.Searches.{module_small, search_none, search_rules, search_on, unruled, location_far, location_none}
+use Rattle.find_path_local.proofs.Searches.{one_nothing, module_small, search_none, search_rules, search_on, unruled, location_far, location_none}
 use Rattle.find_path_local.proofs.Searches.{location_shorter, location_call, location_reads, location_few, location_text, location_steps}
 use Rattle.find_path_local.proofs.Searches.{location_some, entry_at, tight_none, made_asked, made_done, row_two, row_entered, owner_known}
 use Rattle.find_path_local.proofs.Searches.{owner_call, owner_reads, owner_found, owner_few, owner_steps, owner_text, owner_done}
@@ -79,6 +79,15 @@ find_path_for_module_local-returns t c =
           c.local_at.ensures.rows;
     }
 
+pub local_at-returns-then-left-eq1 : goal.local_at-returns-then-left-eq1
+local_at-returns-then-left-eq1 t c =
+    record {
+      same = one_nothing (snap_by c.args.records.now c.args.area.now) c.args.x c.if-left-eq1.true
+          (levels_of c.args.area.now c.args.s.place c.args.s.depth) c.args.sought.item;
+      below = refl;
+      rows = c.requires.1.rows;
+    }
+
 pub local_at-bounds-area-top-2 : goal.local_at-bounds-area-top-2
 local_at-bounds-area-top-2 t c =
     omega (
@@ -93,16 +102,16 @@ local_at-bounds-area-top-2 t c =
 pub local_at-locations-n-requires : goal.local_at-locations-n-requires
 local_at-locations-n-requires t c = (
   head_reads c.args.records.now.words.now c.args.area.now c.args.records.now.layout c.args.x c.args.left c.args.sought.item c.args.s
-      c.requires.0 c.requires.1 c.args.sought.small c.code_of-code.result c.code_of-code.ensures.0,
+      (omega (arith, c.requires.0, c.if-left-eq1.false)) c.requires.1 c.args.sought.small c.code_of-code.result c.code_of-code.ensures.0,
   c.requires.1.from,
   omega (arith, c.requires.1.numbers),
   head_space c.args.records.now.words.now c.args.area.now c.args.records.now.layout c.args.x
-      c.args.left c.args.sought.item c.args.s c.requires.0 c.requires.1 c.args.sought.small c.code_of-code.result
+      c.args.left c.args.sought.item c.args.s (omega (arith, c.requires.0, c.if-left-eq1.false)) c.requires.1 c.args.sought.small c.code_of-code.result
       c.code_of-code.ensures.0,
   head_chain c.args.records.now.words.now c.args.area.now c.args.records.now.layout c.args.x c.args.left
-      c.args.sought.item c.args.s c.requires.0 c.requires.1 c.args.sought.small c.code_of-code.result c.code_of-code.ensures.0,
+      c.args.sought.item c.args.s (omega (arith, c.requires.0, c.if-left-eq1.false)) c.requires.1 c.args.sought.small c.code_of-code.result c.code_of-code.ensures.0,
   head_walked c.args.records.now.words.now c.args.area.now c.args.records.now.layout c.args.x c.args.left
-      c.args.sought.item c.args.s c.requires.0 c.requires.1 c.args.sought.small c.code_of-code.result c.code_of-code.ensures.0,
+      c.args.sought.item c.args.s (omega (arith, c.requires.0, c.if-left-eq1.false)) c.requires.1 c.args.sought.small c.code_of-code.result c.code_of-code.ensures.0,
 )
 
 pub local_at-overflow_add-up : goal.local_at-overflow_add-up
@@ -112,14 +121,14 @@ local_at-overflow_add-up t c =
       c.requires.1.space,
       c.requires.0,
       start_few c.args.records.now.words.now c.args.area.now c.args.records.now.layout c.args.x
-          c.args.left c.args.sought.item c.args.s c.requires.0 c.requires.1 c.args.sought.small c.code_of-code.result
+          c.args.left c.args.sought.item c.args.s (omega (arith, c.requires.0, c.if-left-eq1.false)) c.requires.1 c.args.sought.small c.code_of-code.result
           c.code_of-code.ensures.0 _ _ c.locations-n.ensures c.locations-n.auto.area,
     )
 
 pub local_at-loop-k-init : goal.local_at-loop-k-init
 local_at-loop-k-init t c =
     nesting_start c.args.records.now.words.now c.args.area.now c.args.records.now.layout c.args.x c.args.left c.args.sought.item c.args.s
-    c.requires.0 c.requires.1 c.args.sought.small c.code_of-code.result c.code_of-code.ensures.0 _ _ c.locations-n.ensures
+    (omega (arith, c.requires.0, c.if-left-eq1.false)) c.requires.1 c.args.sought.small c.code_of-code.result c.code_of-code.ensures.0 _ _ c.locations-n.ensures
     c.locations-n.auto.area
 
 pub local_at-bounds-area-cursor : goal.local_at-bounds-area-cursor
@@ -127,10 +136,10 @@ local_at-bounds-area-cursor t c =
     omega (
       arith,
       room c.args.records.now.words.now c.args.area.now c.args.records.now.layout c.args.x c.args.left c.args.sought.item
-          c.args.s c.requires.0 c.requires.1 c.args.sought.small c.code_of-code.result c.code_of-code.ensures.0,
+          c.args.s (omega (arith, c.requires.0, c.if-left-eq1.false)) c.requires.1 c.args.sought.small c.code_of-code.result c.code_of-code.ensures.0,
       loop_size
           c.args.records.now.words.now c.args.area.now c.args.records.now.layout c.args.x c.args.left c.args.sought.item c.args.s
-          c.requires.0 c.requires.1 c.args.sought.small c.code_of-code.result c.code_of-code.ensures.0 _ _ c.locations-n.ensures
+          (omega (arith, c.requires.0, c.if-left-eq1.false)) c.requires.1 c.args.sought.small c.code_of-code.result c.code_of-code.ensures.0 _ _ c.locations-n.ensures
           c.locations-n.auto.area c.loop-k.area c.loop-k.best c.loop-k.k c.loop-k.invariant,
     )
 
@@ -140,11 +149,11 @@ local_at-location-best-requires t c = (
   (
     c.requires.0,
     nesting_call c.args.records.now.words.now c.args.area.now c.args.records.now.layout c.args.x
-        c.args.left c.args.sought.item c.args.s c.requires.0 c.requires.1 c.args.sought.small c.code_of-code.result
+        c.args.left c.args.sought.item c.args.s (omega (arith, c.requires.0, c.if-left-eq1.false)) c.requires.1 c.args.sought.small c.code_of-code.result
         c.code_of-code.ensures.0 _ _ c.locations-n.ensures c.locations-n.auto.area c.loop-k.area c.loop-k.best c.loop-k.k
         c.loop-k.invariant c.loop-k-test.true,
     nesting_known c.args.records.now.words.now c.args.area.now c.args.records.now.layout c.args.x
-        c.args.left c.args.sought.item c.args.s c.requires.0 c.requires.1 c.args.sought.small c.code_of-code.result
+        c.args.left c.args.sought.item c.args.s (omega (arith, c.requires.0, c.if-left-eq1.false)) c.requires.1 c.args.sought.small c.code_of-code.result
         c.code_of-code.ensures.0 _ _ c.locations-n.ensures c.locations-n.auto.area c.loop-k.area c.loop-k.best c.loop-k.k
         c.loop-k.invariant c.loop-k-test.true c.word-m.ensures,
     omega (arith, c.loop-k.invariant.fits.few, c.requires.1.deep),
@@ -154,14 +163,14 @@ local_at-location-best-requires t c = (
 pub local_at-loop-k-preserved : goal.local_at-loop-k-preserved
 local_at-loop-k-preserved t c =
     nesting_next c.args.records.now.words.now c.args.area.now c.args.records.now.layout c.args.x c.args.left c.args.sought.item c.args.s
-    c.requires.0 c.requires.1 c.args.sought.small c.code_of-code.result c.code_of-code.ensures.0 _ _ c.locations-n.ensures
+    (omega (arith, c.requires.0, c.if-left-eq1.false)) c.requires.1 c.args.sought.small c.code_of-code.result c.code_of-code.ensures.0 _ _ c.locations-n.ensures
     c.locations-n.auto.area c.loop-k.area c.loop-k.best c.loop-k.k c.loop-k.invariant c.loop-k-test.true
     c.word-m.ensures _ c.location-best.ensures c.location-best.auto.area
 
 pub local_at-returns : goal.local_at-returns
 local_at-returns t c =
     nesting_done c.args.records.now.words.now c.args.area.now c.args.records.now.layout c.args.x c.args.left c.args.sought.item c.args.s
-    c.requires.0 c.requires.1 c.args.sought.small c.code_of-code.result c.code_of-code.ensures.0 _ _ c.locations-n.ensures
+    (omega (arith, c.requires.0, c.if-left-eq1.false)) c.requires.1 c.args.sought.small c.code_of-code.result c.code_of-code.ensures.0 _ _ c.locations-n.ensures
     c.locations-n.auto.area c.loop-k.area c.loop-k.best c.loop-k.k c.loop-k.invariant c.loop-k-test.false
 
 pub location-returns-then-j-word : goal.location-returns-then-j-word

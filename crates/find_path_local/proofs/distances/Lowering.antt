@@ -15,9 +15,8 @@ use Rattle.accept.specs.Post.{Reads}
 use Rattle.accept.specs.Valid.{Each, none, more}
 use Rattle.accept.proofs.Accepted.{by_test}
 use Rattle.accept.proofs.Bools.{each_map}
-use Rattle.find_path_spec.specs.declared.FindPathCtx.{FindPathCtx}
 use Rattle.find_path_spec.proofs.laws.Tables.{same_snap, same_reads}
-use Rattle.find_path_local.specs.distances.Distances.{distance, Named, Ruled}
+use Rattle.find_path_local.specs.distances.Distances.{distance, Named}
 use Rattle.find_path_local.specs.distances.Post.{Ready, Far, Lowers}
 
 -- all of a list that is read off
@@ -82,15 +81,6 @@ module _ (s : Snapshot) (d d' : ℕ → ℕ) (less : (m : ℕ) → d' m ≤ d m)
 
   pub all_less : (c : ℕ) {es : List Scope} → Each (Named s d c) es → Each (Named s d' c) es
   all_less c h = each_map (named_less c) h
-
-  pub ruled_less : (x : FindPathCtx) (n : ℕ) → Ruled s x n d → Ruled s x n d'
-  ruled_less x n r =
-      record {
-        roots = λ m b e. let p = r.roots m b e in let q = less m in omega arith;
-        keywords = λ m e. let p = r.keywords m e in let q = less m in omega arith;
-        scope = λ t. each_map (λ a h. all_less a h) (r.scope t);
-        prelude = λ p e. all_less p.target (r.prelude p e);
-      }
 
 -- of two areas where words fell
 pub distances_less : {A B : List ℕ} → Lowers A B → (m : ℕ) → distance B m ≤ distance A m

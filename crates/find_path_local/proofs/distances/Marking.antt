@@ -18,7 +18,8 @@ use Rattle.snapshot.specs.Limits.{module_limit, area_limit}
 use Rattle.snapshot.specs.Records.{Snapshot, Scope, Prelude, scope_at}
 use Rattle.snapshot.specs.Layouts.{table_words, scope_base, snap_of}
 use Rattle.snapshot.specs.declared.layout.Layout.{Layout}
-use Rattle.record_index.specs.Index.{Follows}
+use Rattle.record_index.specs.Index.{key_of, Follows}
+use Rattle.record_index.specs.declared.chains.Chain.TheVariants.{Modules}
 use Rattle.accept.specs.Post.{Reads}
 use Rattle.accept.specs.Valid.{Each, more}
 use Rattle.accept.proofs.Accepted.{by_test}
@@ -42,7 +43,8 @@ use Rattle.find_path_spec.proofs.laws.Tables.{same_snap, same_reads}
 use Rattle.find_path_local.specs.distances.Distances.{distance, Named, is_keyword}
 use Rattle.find_path_local.specs.distances.Post.{Ready, Cleared, Rooted, Marked, Lowers}
 use Rattle.find_path_local.proofs.distances.Lowering.{lowers_same, lowers_then, lowers_snap, lowers_ready, lowers_far, set_lowers, distances_less}
-use Rattle.find_path_local.proofs.distances.Lowering.{named_less, all_less}
+use Rattle.find_path_local.proofs.distances.Lowering.{all_less}
+use Rattle.find_path_local.proofs.distances.Near.{ruled_one}
 
 -- a module is marked
 module _ (A : List ℕ) (m : ℕ) (size : length A ≡ area_limit) (known : m < module_limit) where
@@ -137,7 +139,7 @@ pub record Along (W A₀ : List ℕ) (l : Layout) (c : ℕ) (Q : List ℕ → Sc
   pub lowers : Lowers A₀ A
   pub size : length A ≡ length A₀
   pub within : k ≤ l.scopes
-  pub follows : Follows W l c k
+  pub follows : Follows (key_of W l Modules) c k
   pub rest : (B : List ℕ) → Lowers A B → Each (Q B) (left_of (is_module_entry (snap_of W A₀ l) c) (λ i. scope_at W (scope_base l + scope_size * i)) l.scopes k)
       → Each (Q B) (left_of (is_module_entry (snap_of W A₀ l) c) (λ i. scope_at W (scope_base l + scope_size * i)) l.scopes 0)
 
@@ -358,8 +360,9 @@ module _ (W A₀ : List ℕ) (l : Layout) (x : FindPathCtx) (y : Ready W A₀ l)
           let h₂ = lowers_then f₂.0 h₃ in
           record {
             far = lowers_far W l h₂ far₁;
-            rules =
-                record {
+            answers =
+                ruled_one (T A₀) x l.modules (distance A)
+                (record {
                   roots = λ m b e. let p = roots₁ m b e in let q = distances_less h₂ m in omega arith;
                   keywords = λ m e. let p = f₂.1 m (subst (λ (s : Snapshot). is_keyword s x m ≡ true) (sym same₁) e) in let q =
                       distances_less h₃ m in omega arith;
@@ -368,7 +371,7 @@ module _ (W A₀ : List ℕ) (l : Layout) (x : FindPathCtx) (y : Ready W A₀ l)
                       all_less (T A₀) (distance A₃) (distance A) (distances_less g) p.target
                       (subst (λ (s : Snapshot). prelude_of s (map_no s x.from.0) ≡ Some p
                       → Each (Named s (distance A₃) p.target) s.scopes) same₂ (f₃.1 p) e);
-                };
+                });
             tables = h₂.tables ∙ tables₁;
           }
 

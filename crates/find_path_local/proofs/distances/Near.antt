@@ -23,11 +23,13 @@ use Rattle.find_path_spec.specs.declared.FindPathCtx.{FindPathCtx}
 use Rattle.find_path_choice.specs.Choices.{nothing}
 use Rattle.find_path_spec.specs.Rules.{first_found, single, find_in_scope, may_be_in_scope, scope_rule, is_usable, prelude_entry, in_prelude, find_in_prelude}
 use Rattle.find_path_spec.specs.Rules.{prelude_rule, root_rule, module_rules}
+use Rattle.snapshot.specs.Lists.{any}
+use Rattle.find_path_spec.specs.Walk.{has, visited}
 use Rattle.find_path_spec.specs.Local.{is_importable, entry_if, importable_name}
 use Rattle.read_back.proofs.Exact.{same_item_lem}
-use Rattle.find_path_spec.specs.laws.Near.{is_some, ruled, imports, near}
+use Rattle.find_path_spec.specs.laws.Near.{is_some, imports, locations, near}
 use Rattle.find_path_spec.proofs.laws.Near.{near_cases}
-use Rattle.find_path_local.specs.distances.Distances.{Bounds, Named, Stepped, Closed}
+use Rattle.find_path_local.specs.distances.Distances.{Bounds, Named, Stepped, Ruled, Answering, walk, Onward, Closed}
 
 -- what is found in a list has what all of it have, and passes the test
 first_each : {A : Type 0} {P : A → Type 0} (p : A → Bool) {xs : List A} (y : A) → Each P xs → first_of p xs ≡ Some y → P y × (p y ≡ true)
@@ -130,47 +132,48 @@ module _ (s : Snapshot) (x : FindPathCtx) where
   unfolding importable_name
   import_for P all a m e k = preferred_for P all a m x.fresh _ _ e (name_for P all a m e) (import_some _ e k).0
 
-  module _ (n : ℕ) (d : ℕ → ℕ) (c : Closed s x n d) (owners : Each (λ e. e.owner < n) s.scopes) where
+  module _ (n : ℕ) (d : ℕ → ℕ) (r : Ruled s x n d) where
     in_scope : (m : ℕ) (e : Scope) → may_be_in_scope s x ≡ true → find_in_scope s x (module_item m) ≡ Some e → d m ≤ 1
     unfolding find_in_scope scope_entry Named
     in_scope m e t h =
         some_each (entry_in s (module_item m) x.ignore_local_imports x.fresh) e
-        (λ a all k. let f = entry_for (Named s d a) all a m x.ignore_local_imports x.fresh e k in f.0 m f.1 f.2) (c.rules.scope t) h
+        (λ a all k. let f = entry_for (Named s d a) all a m x.ignore_local_imports x.fresh e k in f.0 m f.1 f.2) (r.scope t) h
 
     in_prelude_lem : (m : ℕ) (e : Scope) (o : Option Prelude) → prelude_of s (map_no s x.from.0) ≡ o → in_prelude s x (module_item m) o ≡ Some e → d m ≤ 1
     unfolding in_prelude Named
     in_prelude_lem m e None q h = let z : ◌≡◌ {A = ℕ} 0 1 = cc in absurd (omega arith)
     in_prelude_lem m e (Some p) q h =
-        let all = c.rules.prelude p q in
+        let all = r.prelude p q in
         let f = preferred_for (Named s d p.target) all p.target m x.fresh _ _ e (name_for (Named s d p.target) all p.target m e)
         (prelude_some (module_item m) _ e h) in
         f.0 m f.1 f.2
 
     -- where a rule answers
-    ruled_one : (m : ℕ) → m < n → ruled s x m ≡ true → d m ≤ 1
+    pub ruled_one : Answering s x n d
     unfolding module_rules find_in_prelude
     ruled_one m b h =
-        ⊎_elim (λ f. c.rules.roots m b (root_found m f))
+        ⊎_elim (λ f. r.roots m b (root_found m f))
         (λ f. ⊎_elim (λ g. let (t, (e, k)) = scope_found m g in in_scope m e t k)
-        (λ g. ⊎_elim (λ i. c.rules.keywords m i)
+        (λ g. ⊎_elim (λ i. r.keywords m i)
         (λ i. ⊎_elim (λ j. let (e, k) = prelude_found m j in in_prelude_lem m e _ refl k) (λ j. absurd (first_nothing j)) (first_cases _ _ i))
         (first_cases _ _ g)) (first_cases _ _ f))
         (first_cases _ _ h)
 
+  module _ (n : ℕ) (d : ℕ → ℕ) (c : Closed s x n d) (owners : Each (λ e. e.owner < n) s.scopes) where
     some_is : (o : Option Scope) → is_some o ≡ true → (e : Scope) × (o ≡ Some e)
     some_is None h = absurd (false≢true h)
     some_is (Some e) h = (e, refl)
 
     -- a module that it can be imported from
-    import_step_lem : (m a : ℕ) → imports s x m a ≡ true → (a < n) × (d m ≤ d a + 1)
+    import_step_lem : (m a : ℕ) → imports s x m a ≡ true → has (walk s x) a ≡ true → (a < n) × (d m ≤ d a + 1)
     unfolding imports importable_name Stepped
-    import_step_lem m a h =
+    import_step_lem m a h walked =
         let (e, k) = some_is (importable_name s x (module_item m) a) h in
-        let P : Scope → Type 0 = λ e. Stepped s x d e × (e.owner < n) in
+        let P : Scope → Type 0 = λ e. Onward s x d e × (e.owner < n) in
         let all : Each P s.scopes = both c.steps owners in
         let g = import_some _ e k in
         let f = preferred_for P all a m x.fresh _ _ e (name_for P all a m e) g.0 in
-        let q = f.0.0 m f.2 g.1 in
+        let q = f.0.0 (subst (λ z. has (walk s x) z ≡ true) (sym f.1) walked) m f.2 (subst (λ z. imports s x m z ≡ true) (sym f.1) h) in
         let o = f.0.1 in
         (subst (λ z. z < n) f.1 o, subst (λ z. d m ≤ d z + 1) f.1 q)
       where
@@ -178,11 +181,16 @@ module _ (s : Snapshot) (x : FindPathCtx) where
         both Each.none Each.none = Each.none
         both (more p h) (more q g) = more (p, q) (both h g)
 
+    -- under no level the walk is that past no visited module
+    unseen : (m a : ℕ) → has (locations s x [] m) a ≡ true → has (walk s x) a ≡ true
+    unfolding visited any
+    unseen m a h = h
+
     -- Closed numbers are bounds.
     pub closed_bounds : Bounds s x n d
     unfolding near
     closed_bounds zero m b h = absurd (false≢true h)
     closed_bounds (suc k) m b h =
-        ⊎_elim (λ r. let q = ruled_one m b r in omega arith)
-        (λ (a, at, t). let (i, q) = import_step_lem m a at.entry in let o = closed_bounds k a i t in omega arith)
+        ⊎_elim (λ r. let q = c.answers m b r in omega arith)
+        (λ (a, at, t). let (i, q) = import_step_lem m a at.entry (unseen m a at.taken) in let o = closed_bounds k a i t in omega arith)
         (near_cases s x [] k m h)

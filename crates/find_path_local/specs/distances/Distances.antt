@@ -1,5 +1,5 @@
 -- Numbers of modules by which a local search passes over what it cannot find.
-use Rattle.std.specs.Prelude.{ℕ, ◌+◌, ◌≤◌, ◌<◌, ◌≡◌, List, [], Bool, true, get_or}
+use Rattle.std.specs.Prelude.{ℕ, ◌+◌, ◌≤◌, ◌<◌, ◌≡◌, List, [], Bool, true, false, get_or}
 use Rattle.std.specs.Prelude.{Some}
 use Rattle.snapshot.specs.Records.{Snapshot, Scope, Prelude}
 use Rattle.snapshot.specs.Layouts.{table_words}
@@ -9,8 +9,8 @@ use Rattle.hir_def.specs.ItemScope.{is_module_entry, entry_module}
 use Rattle.hir_def.specs.Nameres.{ancestor_maps, prelude_of}
 use Rattle.find_path_spec.specs.declared.FindPathCtx.{FindPathCtx}
 use Rattle.find_path_spec.specs.Rules.{may_be_in_scope, is_kw_kind_relative_to_from, keyword_of}
-use Rattle.find_path_spec.specs.Local.{is_importable}
-use Rattle.find_path_spec.specs.laws.Near.{near}
+use Rattle.find_path_spec.specs.Walk.{has, find_local_import_locations}
+use Rattle.find_path_spec.specs.laws.Near.{ruled, imports, near}
 
 -- they stand past the tables, a word a module
 abbrev pub distance : List ℕ → ℕ → ℕ
@@ -28,13 +28,13 @@ Bounds s x n d = (k m : ℕ) → m < n → near s x [] k m ≡ true → d m ≤ 
 unfoldable pub Named : Snapshot → (ℕ → ℕ) → ℕ → Scope → Type 0
 Named s d c e = (m : ℕ) → e.owner ≡ c → item_of s e.ns e.definition ≡ module_item m → d m ≤ 1
 
--- an entry for a module by which the viewer can import it: its number is at most one more than that of the entry's module
+-- an entry for a module that the viewer can import from the entry's module: its number is at most one more than that one's
 unfoldable pub Stepped : Snapshot → FindPathCtx → (ℕ → ℕ) → Scope → Type 0
-Stepped s x d e = (m : ℕ) → item_of s e.ns e.definition ≡ module_item m → is_importable s x e ≡ true → d m ≤ d e.owner + 1
+Stepped s x d e = (m : ℕ) → item_of s e.ns e.definition ≡ module_item m → imports s x m e.owner ≡ true → d m ≤ d e.owner + 1
 
--- an entry for a module by which the viewer can import it: this one's number is at most k
+-- an entry for a module that the viewer can import from the entry's module: its number is at most k
 unfoldable pub Nearer : Snapshot → FindPathCtx → (ℕ → ℕ) → ℕ → Scope → Type 0
-Nearer s x d k e = is_importable s x e ≡ true → d (entry_module s e) ≤ k
+Nearer s x d k e = imports s x (entry_module s e) e.owner ≡ true → d (entry_module s e) ≤ k
 
 -- so, of the entries of the module c
 unfoldable pub Opened : Snapshot → FindPathCtx → (ℕ → ℕ) → ℕ → ℕ → Scope → Type 0
@@ -50,7 +50,19 @@ pub record Ruled (s : Snapshot) (x : FindPathCtx) (n : ℕ) (d : ℕ → ℕ) : 
   pub scope : may_be_in_scope s x ≡ true → Each (λ a. Each (Named s d a) s.scopes) (ancestor_maps s x.from.0)
   pub prelude : (p : Prelude) → prelude_of s (map_no s x.from.0) ≡ Some p → Each (Named s d p.target) s.scopes
 
--- They grow by at most 1 with each entry too.
+-- Numbers that are at most 1 where a rule answers.
+abbrev pub Answering : Snapshot → FindPathCtx → ℕ → (ℕ → ℕ) → Type 0
+Answering s x n d = (m : ℕ) → m < n → ruled s x m ≡ true → d m ≤ 1
+
+-- the modules that the walk past no visited module takes
+abbrev pub walk : Snapshot → FindPathCtx → List ℕ
+walk s x = find_local_import_locations s x.from.0 (λ _. false)
+
+-- the same of the entries of the modules that are walked to
+abbrev pub Onward : Snapshot → FindPathCtx → (ℕ → ℕ) → Scope → Type 0
+Onward s x d e = has (walk s x) e.owner ≡ true → Stepped s x d e
+
+-- They grow by at most 1 with each entry of a module that is walked to, too.
 pub record Closed (s : Snapshot) (x : FindPathCtx) (n : ℕ) (d : ℕ → ℕ) : Type 0 where
-  pub rules : Ruled s x n d
-  pub steps : Each (Stepped s x d) s.scopes
+  pub answers : Answering s x n d
+  pub steps : Each (Onward s x d) s.scopes

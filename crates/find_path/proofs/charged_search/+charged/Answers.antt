@@ -13,6 +13,7 @@ use Rattle.hir_def.specs.ImportMap.{import_info_for}
 use Rattle.hir_def.specs.Entries.{entry_of}
 use Rattle.hir_def.proofs.Lookups.{next_record, next_none, imports_whole}
 use Rattle.hir_def.proofs.Fits.{few_words, import_meets}
+use Rattle.hir_def.proofs.Along.{import_follows}
 use Rattle.hir_def.specs.crate_graph.Among.{among}
 use Rattle.find_path_choice.specs.Given.{given}
 use Rattle.find_path_spec.specs.Charged.{found_of, out_of, given_found, is_stable}
@@ -116,14 +117,20 @@ find_import-returns t c =
 
 pub find_in_dep-loop-next-init : goal.find_in_dep-loop-next-init
 find_in_dep-loop-next-init t c =
-    let a = c.args in
-    record {
-      same = ap (imports (snap_by a.records.now a.area.now) a.x a.left (out_of a.o))
-          (sym (imports_whole a.records.now.words.now a.area.now a.records.now.layout a.c.0 a.item));
-      tables = refl;
-      long = refl;
-      held = c.requires.1;
-    }
+    let a = c.args in (
+      record {
+        same = ap (imports (snap_by a.records.now a.area.now) a.x a.left (out_of a.o))
+            (sym (imports_whole a.records.now.words.now a.area.now a.records.now.layout a.c.0 a.item));
+        tables = refl;
+        long = refl;
+        held = c.requires.1;
+      },
+      omega arith,
+      λ h. absurd (omega arith),
+    )
+
+pub find_in_dep-import_info_for-requires : goal.find_in_dep-import_info_for-requires
+find_in_dep-import_info_for-requires t c = (c.loop-next.invariant.1, c.loop-next.invariant.2)
 
 pub find_in_dep-find_import-best-requires : goal.find_in_dep-find_import-best-requires
 find_in_dep-find_import-best-requires t c =
@@ -131,7 +138,7 @@ find_in_dep-find_import-best-requires t c =
     let g = c.loop-next in
     let m = next_record (c.import_info_for.ensures a.area.now) c.in-Some.is in
     let q = import_meets a.records.now.words.now a.area.now a.records.now.layout c.requires.0.ready.reads m in
-    (omega (arith, c.decreases), (begun_later c.requires.0 g.invariant.tables g.invariant.long, q.container, q, g.invariant.held))
+    (omega (arith, c.decreases), (begun_later c.requires.0 g.invariant.0.tables g.invariant.0.long, q.container, q, g.invariant.0.held))
 
 pub find_in_dep-overflow_add-k : goal.find_in_dep-overflow_add-k
 find_in_dep-overflow_add-k t c =
@@ -152,20 +159,23 @@ find_in_dep-loop-next-preserved t c =
     let a = c.args in
     let m = next_record (c.import_info_for.ensures a.area.now)
     c.in-Some.is in
-    let g = c.loop-next in
-    imports_next a.records.now.words.now a.area.now g.area a.records.now.layout a.x a.left c.requires.0.ready c.requires.0.some
-    g.invariant m c.find_import-best.ensures (omega (arith, c.find_import-best.array_long, c.told-area, g.invariant.long))
+    let g = c.loop-next in (
+      imports_next a.records.now.words.now a.area.now g.area a.records.now.layout a.x a.left c.requires.0.ready c.requires.0.some
+          g.invariant.0 m c.find_import-best.ensures (omega (arith, c.find_import-best.array_long, c.told-area, g.invariant.0.long)),
+      omega (arith, m.below),
+      import_follows a.records.now.words.now a.area.now a.records.now.layout a.c.0 a.item m,
+    )
 
 pub find_in_dep-invariant_of-db : goal.find_in_dep-invariant_of-db
 find_in_dep-invariant_of-db t c =
     let g = c.loop-next in
-    record { reads = (begun_later c.requires.0 g.invariant.tables g.invariant.long).ready.reads }
+    record { reads = (begun_later c.requires.0 g.invariant.0.tables g.invariant.0.long).ready.reads }
 
 pub find_in_dep-returns-in_default : goal.find_in_dep-returns-in_default
 find_in_dep-returns-in_default t c =
     let a = c.args in
     let g = c.loop-next in
-    running_done g.invariant (imports_end a.records.now.words.now a.area.now g.area a.records.now.layout a.x a.left c.requires.0.ready
+    running_done g.invariant.0 (imports_end a.records.now.words.now a.area.now g.area a.records.now.layout a.x a.left c.requires.0.ready
     c.requires.0.some g.best _ (next_none (c.import_info_for.ensures a.area.now) c.in_default.is).none)
 
 pub find_in_deps-loop-next-init : goal.find_in_deps-loop-next-init

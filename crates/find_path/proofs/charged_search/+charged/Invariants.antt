@@ -1,7 +1,10 @@
-use Prim.Native.Nat.{◌+◌, ◌-◌, ◌*◌}
+use Prim.Native.Nat.{◌+◌, ◌-◌, ◌*◌, ◌≤◌}
 use Rattle.snapshot.specs.Sizes.{dependency_size, import_size}
 use Rattle.snapshot.specs.Records.{import_at, dependency_at}
 use Rattle.snapshot.specs.Layouts.{import_base, dependency_base}
+use Rattle.record_index.specs.Index.{import_key, key_of, Follows}
+use Rattle.record_index.specs.declared.chains.Chain.TheVariants.{Imports}
+use Rattle.hir_def.specs.Keys.{number_of}
 use Rattle.hir_def.specs.Finds.{select}
 use Rattle.hir_def.specs.crate_graph.Among.{among}
 use Rattle.hir_def.specs.ImportMap.{is_import, import_info_for}
@@ -45,6 +48,8 @@ invariant-find_in_dep-loop-next l =
     (imports (snap_by l.records l.initial.area) l.x l.left (out_of l.best) (left_of (is_import (snap_by l.records l.initial.area) l.c.0 l.item)
     (λ i. import_at l.records.words.now (import_base l.records.layout + import_size * i)) l.records.layout.imports l.k))
     (imports (snap_by l.records l.initial.area) l.x l.left (out_of l.initial.best) (import_info_for (snap_by l.records l.initial.area) l.c.0 l.item))
+    × (l.k ≤ l.records.layout.imports)
+    × Follows (key_of l.records.words.now l.records.layout Imports) (import_key l.c.0 (number_of l.item)) l.k
 
 abbrev pub decreases-find_in_dep-loop-next : goal.decreases-find_in_dep-loop-next
 decreases-find_in_dep-loop-next l = l.records.layout.imports - l.k

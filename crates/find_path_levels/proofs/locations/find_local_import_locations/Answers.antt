@@ -1,4 +1,3 @@
-use mathlib.Core.Path.{◌∙◌}
 use Rattle.find_path_levels.proofs.Gathers.{ready_start, ready_children, reads_children, ready_begun, reads_begun, begun, walking_start}
 use Rattle.find_path_levels.proofs.Gathers.{walking_reads, walking_next, gathered}
 use Rattle.find_path_levels.proofs.locations.find_local_import_locations.Goals as goal

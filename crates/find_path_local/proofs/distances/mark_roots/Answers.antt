@@ -1,4 +1,4 @@
-use mathlib.Core.Path.{sym, ap, ◌∙◌}
+use mathlib.Core.Path.{ap, ◌∙◌}
 use native.Mathlib.Omega.{arith}
 use Rattle.snapshot.specs.Layouts.{snap_of}
 use Rattle.hir_def.specs.Items.{root_of}

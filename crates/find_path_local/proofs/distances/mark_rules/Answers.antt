@@ -1,5 +1,4 @@
 use mathlib.Core.Path.{sym, ◌∙◌}
-use native.Mathlib.Omega.{arith}
 use Rattle.find_path_local.proofs.distances.Marking.{ready_cleared, ready_roots, ready_keywords, ready_prelude, marked_none, marked_scopes}
 use Rattle.find_path_local.proofs.distances.mark_rules.Goals as goal
 

@@ -1,33 +1,50 @@
-use mathlib.Core.Path.{◌≡◌, refl, subst, ◌∙◌, sym}
+use Prim.Native.Nat.{◌+◌}
+use mathlib.Core.Path.{◌≡◌, refl, subst, ◌∙◌, ap}
 use native.Mathlib.Omega.{arith}
+use lib.ListN.{get_or}
 use Rattle.snapshot.specs.Layouts.{snap_of}
+use Rattle.find_path_levels.specs.Levels.{run_at}
+use Rattle.find_path_levels.specs.walk_once.Walked.{walk_at, walk_count}
+use Rattle.find_path_levels.proofs.Rows.{run_none}
 use Rattle.find_path_local.specs.distances.Post.{Round}
 use Rattle.find_path_local.proofs.distances.Lowering.{lowers_ready}
-use Rattle.find_path_local.proofs.distances.Relaxing.{round_start, round_next}
+use Rattle.find_path_local.proofs.distances.Relaxing.{round_start, round_next, run_more, walk_known}
 use Rattle.find_path_local.proofs.distances.relax.Goals as goal
 
-pub loop-m-init : goal.loop-m-init
-loop-m-init c =
-    (round_start c.args.records.now.words.now c.args.area.now c.args.records.now.layout c.args.x c.args.d, refl, omega arith)
+pub loop-k-init : goal.loop-k-init
+loop-k-init c = (
+  round_start c.args.records.now.words.now c.args.area.now c.args.records.now.layout c.args.x c.args.d (run_none c.args.area.now walk_at),
+  refl,
+  omega arith,
+)
 
 pub relax_at-r-requires : goal.relax_at-r-requires
-relax_at-r-requires c = (
-  lowers_ready c.args.records.now.words.now c.args.records.now.layout c.loop-m.invariant.0.steps.lowers c.requires.0 c.loop-m.invariant.1,
-  c.requires.1,
-  c.loop-m-test.true,
-  c.requires.2,
-)
+relax_at-r-requires c =
+    let W = c.args.records.now.words.now in
+    let A = c.args.area.now in
+    let l = c.args.records.now.layout in
+    let v = c.loop-k.invariant in (
+      lowers_ready W l v.0.steps.lowers c.requires.0 v.1,
+      c.requires.1,
+      walk_known W A l c.args.x.from.0 c.loop-k.k _ c.requires.0.reads c.requires.1 c.requires.3 c.word-k-end.ensures c.loop-k-test.true
+          (c.word.ensures ∙ v.0.steps.beyond (walk_at + c.loop-k.k) (omega arith)),
+      c.requires.2,
+    )
 
-pub loop-m-preserved : goal.loop-m-preserved
-loop-m-preserved c = (
-  round_next c.args.records.now.words.now c.args.area.now c.args.records.now.layout c.args.x c.args.d c.requires.0.reads c.loop-m.invariant.0
-      c.relax_at-r.ensures,
-  omega (arith, c.relax_at-r.array_long, c.told-area, c.loop-m.invariant.1),
-  omega (arith, c.loop-m-test.true),
-)
+pub loop-k-preserved : goal.loop-k-preserved
+loop-k-preserved c =
+    let A = c.args.area.now in
+    let v = c.loop-k.invariant in
+    let e = c.word.ensures ∙ v.0.steps.beyond (walk_at + c.loop-k.k) (omega arith) in (
+      round_next c.args.records.now.words.now A c.args.records.now.layout c.args.x c.args.d c.requires.0.reads v.0 (run_more A walk_at c.loop-k.k e)
+          c.relax_at-r.ensures,
+      omega (arith, c.relax_at-r.array_long, c.told-area, v.1),
+      omega (arith, c.loop-k-test.true, c.word-k-end.ensures),
+    )
 
 pub returns : goal.returns
 returns c =
-    let e : c.loop-m.m ≡ c.args.records.now.layout.modules = omega (arith, c.loop-m.invariant.2, c.loop-m-test.false) in
-    subst (λ n. Round (snap_of c.args.records.now.words.now c.args.area.now c.args.records.now.layout) c.args.x c.args.area.now n c.args.d c.loop-m.area
-    c.loop-m.more) e c.loop-m.invariant.0
+    let A = c.args.area.now in
+    let S = snap_of c.args.records.now.words.now A c.args.records.now.layout in
+    let e : c.loop-k.k ≡ get_or A walk_count 0 = omega (arith, c.loop-k.invariant.2, c.loop-k-test.false, c.word-k-end.ensures) in
+    subst (λ ms. Round S c.args.x A ms c.args.d c.loop-k.area c.loop-k.more) (ap (run_at A walk_at) e ∙ c.requires.3.same) c.loop-k.invariant.0

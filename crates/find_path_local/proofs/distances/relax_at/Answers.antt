@@ -1,4 +1,3 @@
-use mathlib.Core.Path.{ap, ◌∙◌}
 use native.Mathlib.Omega.{arith}
 use Rattle.snapshot.specs.Layouts.{snap_of}
 use Rattle.find_path_local.proofs.distances.Relaxing.{turned_here, turned_past, far_left}

@@ -6,7 +6,7 @@ use Rattle.snapshot.specs.Records.{scope_at}
 use Rattle.snapshot.specs.Layouts.{snap_of}
 use Rattle.hir_def.specs.Items.{definition_of}
 use Rattle.find_path_local.specs.distances.Distances.{distance}
-use Rattle.find_path_local.proofs.distances.Relaxing.{steps_none, steps_set, set_here, nearer_low, nearer_hidden, nearer_here}
+use Rattle.find_path_local.proofs.distances.Relaxing.{steps_none, steps_set, nearer_low, nearer_hidden, nearer_here}
 use Rattle.find_path_local.proofs.distances.relax_entry.Goals as goal
 
 pub returns-then-word-d : goal.returns-then-word-d
@@ -17,13 +17,15 @@ returns-then-word-d c =
     let t = c.first_of-m.ensures A ∙ ap (λ y. (definition_of s y).first) c.scope_definition.ensures in
     (steps_none A c.args.d, nearer_low s c.args.x A c.args.d (scope_at W c.args.h) t c.word.ensures c.if-word-d.true)
 
-pub returns-then-not-is_importable : goal.returns-then-not-is_importable
-returns-then-not-is_importable c =
+pub returns-in_default : goal.returns-in_default
+returns-in_default c =
     let W = c.args.records.now.words.now in
     let A = c.args.area.now in
     let s = snap_of W A c.args.records.now.layout in
-    let t = c.first_of-m.ensures A ∙ ap (λ y. (definition_of s y).first) c.scope_definition.ensures in
-    (steps_none A c.args.d, nearer_hidden s c.args.x A c.args.d (scope_at W c.args.h) t c.is_importable.ensures c.if-not-is_importable.true)
+    let t = c.first_of-m.ensures A ∙ ap (λ y. (definition_of s y).first) c.scope_definition.ensures in (
+      steps_none A c.args.d,
+      nearer_hidden s c.args.x A c.args.d (scope_at W c.args.h) t W c.scope_owner-owner.ensures c.importable_name.ensures.0 c.in_default.is,
+    )
 
 pub bounds-area-at : goal.bounds-area-at
 bounds-area-at c =

@@ -1,7 +1,5 @@
 use mathlib.Core.Path.{refl, sym, ap, ◌∙◌}
 use mathlib.Core.Bool.{◌&&◌}
-use mathlib.Core.List.{List}
-use Prim.Native.Nat.{ℕ}
 use Rattle.std.proofs.Common.{rules}
 use Rattle.snapshot.specs.Records.{Dependency, dependency_at}
 use Rattle.snapshot.specs.Laid.{snap_by}

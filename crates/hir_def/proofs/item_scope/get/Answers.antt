@@ -1,11 +1,10 @@
-use mathlib.Core.Path.{refl, sym, ap, ◌∙◌, subst}
-use Rattle.std.specs.Prelude.{Some, None}
+use mathlib.Core.Path.{refl}
 use Rattle.std.proofs.Common.{rules}
 use Rattle.snapshot.specs.Records.{scope_at}
-use Rattle.hir_def.specs.Entries.{entry_of}
+use Rattle.record_index.specs.Index.{key_at}
+use Rattle.record_index.specs.declared.chains.Chain.TheVariants.{Modules}
 use Rattle.hir_def.specs.ItemScope.{is_named, get as entry_named}
-use Rattle.hir_def.proofs.Searches.{found_by, none_by, only_agree}
-use Rattle.hir_def.specs.item_scope.Owners.{owner_of}
+use Rattle.hir_def.proofs.Searches.{first_by, only_agree}
 use Rattle.hir_def.proofs.item_scope.Along.{named_within}
 use Rattle.hir_def.proofs.item_scope.get.Goals as goal
 
@@ -15,15 +14,6 @@ returns c =
     let W = c.args.db.now.records.words.now in
     let test = is_named c.args.m.0 c.args.ns c.args.name.0 in
     λ A.
-    (found_by test scope_at W _ _ refl (only_agree (owner_of W) c.args.m.0 test (scope_at W) _ (λ h. named_within _ _ _ (scope_at W h)) (λ h t p. search rules)) c.next_in_scope.ensures
-    c.in_ok-found.was).0
-
-pub returns-in_err-found : goal.returns-in_err-found
-unfolding entry_named
-returns-in_err-found c =
-    let W = c.args.db.now.records.words.now in
-    let test = is_named c.args.m.0 c.args.ns c.args.name.0 in
-    λ A.
-    ap (entry_of scope_at W) c.from_residual.ensures
-    ∙ (none_by test scope_at W _ _ refl (only_agree (owner_of W) c.args.m.0 test (scope_at W) _ (λ h. named_within _ _ _ (scope_at W h)) (λ h t p. search rules)) c.next_in_scope.ensures
-    c.in_err-found.was).0
+    first_by test scope_at W _ _ refl
+    (only_agree (key_at W c.args.db.now.records.layout Modules) c.args.m.0 test (scope_at W) _ (λ h. named_within _ _ _ (scope_at W h))
+    (λ h t p. search rules)) _ c.first_in_chain.ensures

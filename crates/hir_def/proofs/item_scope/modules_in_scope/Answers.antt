@@ -3,8 +3,9 @@ use Rattle.std.proofs.Common.{rules}
 use Rattle.snapshot.specs.Layouts.{snap_of}
 use Rattle.snapshot.specs.Records.{scope_at}
 use Rattle.hir_def.specs.ItemScope.{is_module_entry}
+use Rattle.record_index.specs.Index.{key_at}
+use Rattle.record_index.specs.declared.chains.Chain.TheVariants.{Modules}
 use Rattle.hir_def.proofs.Searches.{next_by, only_agree}
-use Rattle.hir_def.specs.item_scope.Owners.{owner_of}
 use Rattle.hir_def.proofs.item_scope.Along.{module_within}
 use Rattle.hir_def.proofs.item_scope.modules_in_scope.Goals as goal
 
@@ -13,4 +14,4 @@ returns c =
     λ A.
     let W = c.args.db.now.records.words.now in
     let test = is_module_entry (snap_of W A c.args.db.now.records.layout) c.args.m.0 in
-    next_by test scope_at W _ _ refl (only_agree (owner_of W) c.args.m.0 test (scope_at W) _ (λ h. module_within W A c.args.db.now.records.layout _ (scope_at W h)) (λ h t p. search rules)) _ _ c.next_in_scope.ensures
+    next_by test scope_at W _ _ refl (only_agree (key_at W c.args.db.now.records.layout Modules) c.args.m.0 test (scope_at W) _ (λ h. module_within W A c.args.db.now.records.layout _ (scope_at W h)) (λ h t p. search rules)) _ _ c.next_in_chain.ensures
