@@ -138,6 +138,8 @@ impl<'s> Viewer<'s> {
                 (parent, 0, definition)
             }
             Item::Other(ns, definition) => match self.s.definitions[definition].kind {
+                // In values or macros it is another item, declared where the module is.
+                1 => (self.s.modules[self.s.definitions[definition].first].parent.checked_sub(1)?, ns, definition),
                 3 => return None,
                 2 => {
                     let parent = self.s.definitions[definition].first;
