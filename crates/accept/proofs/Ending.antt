@@ -11,11 +11,13 @@ use lib.Dec.{eqb, leb}
 use borrow.Author.Tests.{eqb-true, eqb-false, leb-true, leb-false, lt-leb, not-true}
 use Rattle.snapshot.specs.Lists.{rows, any, all}
 use Rattle.snapshot.specs.Limits.{word_limit, module_limit}
-use Rattle.snapshot.specs.Sizes.{crate_size, dependency_size, child_size, prelude_size, definition_size, scope_size, import_size, extern_size, member_size}
-use Rattle.snapshot.specs.Records.{Map, map_at, crate_at, dependency_at, child_at, prelude_at, definition_at, scope_at, import_at, extern_at, member_at}
-use Rattle.snapshot.specs.Layouts.{crate_base, dependency_base, child_base, prelude_base, definition_base, scope_base, import_base, extern_base, member_base}
-use Rattle.snapshot.specs.Layouts.{module_map, module_head, map_root, own_map, module_row, names_of, maps_of, modules_of, records_of, snap_with, snap_of}
-use Rattle.snapshot.specs.Layouts.{module_table, root_table}
+use Rattle.snapshot.specs.Sizes.{crate_size, dependency_size, child_size, prelude_size}
+use Rattle.snapshot.specs.Sizes.{definition_size, scope_size, import_size, extern_size, member_size}
+use Rattle.snapshot.specs.Records.{Map, map_at, crate_at, dependency_at, child_at, prelude_at}
+use Rattle.snapshot.specs.Records.{definition_at, scope_at, import_at, extern_at, member_at}
+use Rattle.snapshot.specs.Layouts.{crate_base, dependency_base, child_base, prelude_base, definition_base, scope_base}
+use Rattle.snapshot.specs.Layouts.{import_base, extern_base, member_base, module_map, module_head, map_root, own_map, module_row}
+use Rattle.snapshot.specs.Layouts.{names_of, maps_of, modules_of, records_of, snap_with, snap_of, module_table, root_table}
 use Rattle.snapshot.specs.declared.layout.Layout.{Layout}
 use Rattle.snapshot.proofs.Laws.{length_rows, get_d_rows}
 use Rattle.check_rules.specs.Tests.{no_map, is_own, is_in, maps_filled, crates_own}

@@ -103,7 +103,8 @@ module _ (W A B : List ℕ) (at last : ℕ) (l : Layout) (r : Result Layout Refu
     (a : (ms : List Map) → Stands W A last at l ms → Answered W B (kind_of (get_or W at 0)) (at + 1 + arguments_at W at)
     (step_at W at last (snap_with W A l ms)) r)
   where
-    answer : {t : Result Layout Refusal} → r ≡ t → Answered W B (kind_of (get_or W at 0)) (at + 1 + arguments_at W at) (step_at W at last (snap_with W A l g.maps)) t
+    answer : {t : Result Layout Refusal} → r ≡ t → Answered W B (kind_of (get_or W at 0)) (at + 1 + arguments_at W at)
+        (step_at W at last (snap_with W A l g.maps)) t
     answer e = subst (λ x. Answered W B (kind_of (get_or W at 0)) (at + 1 + arguments_at W at) (step_at W at last (snap_with W A l g.maps)) x) e
         (a g.maps g.stands)
 

@@ -9,9 +9,9 @@ use lib.ListN.{length, get_or}
 use borrow.Author.Tests.{eqb-true, eq-eqb, ltb-true}
 use Rattle.snapshot.specs.Lists.{any}
 use Rattle.snapshot.specs.Records.{Snapshot, Map, Module, Child, Definition, Scope, Import}
-use Rattle.check_rules.specs.Tests.{counts_of, no_name, no_map, no_module, no_definition, map_of, kind_of_definition, is_in, is_own, maps_filled, crates_own}
-use Rattle.check_rules.specs.Tests.{child_defined, child_placed, ns_placed, map_repeated, same_definition, definition_repeated, same_name, same_child}
-use Rattle.check_rules.specs.Tests.{same_prelude, same_entry, same_extern, scope_defined, import_defined}
+use Rattle.check_rules.specs.Tests.{counts_of, no_name, no_map, no_module, no_definition, map_of, kind_of_definition, is_in, is_own, maps_filled}
+use Rattle.check_rules.specs.Tests.{crates_own, child_defined, child_placed, ns_placed, map_repeated, same_definition, definition_repeated}
+use Rattle.check_rules.specs.Tests.{same_name, same_child, same_prelude, same_entry, same_extern, scope_defined, import_defined}
 use Rattle.check_rules.specs.Verdict.{accept, verdict}
 use Rattle.accept.specs.Valid.{Each, none, Placed as PlacedIn, map_in, parent_in, block_in, crate_in, definition_in, Under, MacroOnly, Owned}
 use Rattle.accept.specs.Valid.{DefinedOnce, Once}

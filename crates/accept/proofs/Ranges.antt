@@ -9,11 +9,11 @@ use lib.ListN.{length}
 use borrow.Author.Tests.{eqb-true, eq-eqb, ne_eqb, ltb-true, leb-true}
 use Rattle.snapshot.specs.Limits.{word_limit, crate_limit, module_limit, name_limit, definition_limit, namespace_limit}
 use Rattle.snapshot.specs.Records.{Name, Crate, Dependency, Map, Module, Child, Prelude, Definition, Scope, Import, Extern, Member, Snapshot}
-use Rattle.check_rules.specs.Tests.{Counts, counts_of, padded, name_range, crate_range, is_edition, dependency_range, dependency_defined, map_range}
-use Rattle.check_rules.specs.Tests.{map_defined, module_defined, child_defined, prelude_defined, definition_defined, scope_range, scope_defined, import_range}
-use Rattle.check_rules.specs.Tests.{import_defined, extern_defined, member_range, member_defined}
-use Rattle.check_rules.specs.Steps.{add_name, add_crate, add_dependency, add_map, add_module, add_child, add_prelude, add_definition, add_scope, add_import}
-use Rattle.check_rules.specs.Steps.{add_extern, add_member}
+use Rattle.check_rules.specs.Tests.{Counts, counts_of, padded, name_range, crate_range, is_edition, dependency_range, dependency_defined}
+use Rattle.check_rules.specs.Tests.{map_range, map_defined, module_defined, child_defined, prelude_defined, definition_defined}
+use Rattle.check_rules.specs.Tests.{scope_range, scope_defined, import_range, import_defined, extern_defined, member_range, member_defined}
+use Rattle.check_rules.specs.Steps.{add_name, add_crate, add_dependency, add_map, add_module, add_child}
+use Rattle.check_rules.specs.Steps.{add_prelude, add_definition, add_scope, add_import, add_extern, add_member}
 use Rattle.check_rules.specs.Verdict.{accept, verdict, empty}
 use Rattle.accept.specs.Valid.{none, NameFits, CrateFits, DependencyFits, MapFits, ModuleFits, ChildFits, PreludeFits, DefinitionFits}
 use Rattle.accept.specs.Valid.{ScopeFits, ImportFits, ExternFits, MemberFits, Ranges, Limits}

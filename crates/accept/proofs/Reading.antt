@@ -2,15 +2,16 @@
 use mathlib.Core.Path.{◌≡◌, subst}
 use Prim.Native.Nat.{ℕ, ◌+◌, ◌*◌, ◌<◌}
 use mathlib.Core.List.{List}
-use Rattle.snapshot.specs.Sizes.{crate_size, dependency_size, child_size, prelude_size, definition_size, scope_size, import_size, extern_size, member_size}
-use Rattle.snapshot.specs.Records.{crate_at, dependency_at, map_at, child_at, prelude_at, definition_at, scope_at, import_at, extern_at, member_at}
-use Rattle.snapshot.specs.Layouts.{crate_base, dependency_base, child_base, prelude_base, definition_base, scope_base, import_base, extern_base, member_base}
-use Rattle.snapshot.specs.Layouts.{module_row, module_head, map_root, snap_of}
+use Rattle.snapshot.specs.Sizes.{dependency_size, child_size}
+use Rattle.snapshot.specs.Sizes.{definition_size, scope_size, import_size, extern_size, member_size}
+use Rattle.snapshot.specs.Records.{dependency_at, child_at, definition_at, scope_at, import_at, extern_at, member_at}
+use Rattle.snapshot.specs.Layouts.{dependency_base, child_base, definition_base, scope_base}
+use Rattle.snapshot.specs.Layouts.{import_base, extern_base, member_base, snap_of}
 use Rattle.snapshot.specs.declared.layout.Layout.{Layout}
 use Rattle.snapshot.proofs.Laws.{length_rows}
 use Rattle.check_rules.specs.Tests.{Counts, counts_of}
 use Rattle.check_records.specs.record_rules.Stands.{counts_in}
-use Rattle.accept.specs.Valid.{CrateFits, DependencyFits, MapFits, ModuleFits, ChildFits, PreludeFits, DefinitionFits, ScopeFits, ImportFits}
+use Rattle.accept.specs.Valid.{DependencyFits, ChildFits, DefinitionFits, ScopeFits, ImportFits}
 use Rattle.accept.specs.Valid.{ExternFits, MemberFits, Ranges, Valid}
 use Rattle.accept.proofs.Bools.{each_rows}
 
@@ -22,23 +23,11 @@ module _ (W A : List ℕ) (l : Layout) (v : Valid (snap_of W A l)) where
   pub ranges_read : Ranges (counts_in l) (snap_of W A l)
   ranges_read = subst (λ (n : Counts). Ranges n (snap_of W A l)) (counts_read W A l) v.ranges
 
-  pub crate_read : (k : ℕ) → k < l.crates → CrateFits (crate_at W (crate_base l + crate_size * k))
-  crate_read k h = each_rows (λ k. crate_at W (crate_base l + crate_size * k)) l.crates k ranges_read.crates h
-
   pub dependency_read : (k : ℕ) → k < l.dependencies → DependencyFits (counts_in l) (dependency_at W (dependency_base l + dependency_size * k))
   dependency_read k h = each_rows (λ k. dependency_at W (dependency_base l + dependency_size * k)) l.dependencies k ranges_read.dependencies h
 
-  pub map_read : (k : ℕ) → k < l.maps → MapFits (counts_in l) (map_at W (module_head A (map_root A k)))
-  map_read k h = each_rows (λ k. map_at W (module_head A (map_root A k))) l.maps k ranges_read.maps h
-
-  pub module_read : (k : ℕ) → k < l.modules → ModuleFits (counts_in l) (module_row A k)
-  module_read k h = each_rows (module_row A) l.modules k ranges_read.modules h
-
   pub child_read : (k : ℕ) → k < l.children → ChildFits (counts_in l) (child_at W (child_base l + child_size * k))
   child_read k h = each_rows (λ k. child_at W (child_base l + child_size * k)) l.children k ranges_read.children h
-
-  pub prelude_read : (k : ℕ) → k < l.preludes → PreludeFits (counts_in l) (prelude_at W (prelude_base l + prelude_size * k))
-  prelude_read k h = each_rows (λ k. prelude_at W (prelude_base l + prelude_size * k)) l.preludes k ranges_read.preludes h
 
   pub definition_read : (k : ℕ) → k < l.definitions → DefinitionFits (counts_in l) (definition_at W (definition_base l + definition_size * k))
   definition_read k h = each_rows (λ k. definition_at W (definition_base l + definition_size * k)) l.definitions k ranges_read.definitions h

@@ -11,16 +11,17 @@ use Rattle.snapshot.specs.Limits.{word_limit, crate_limit, module_limit, name_li
 use Rattle.snapshot.specs.Refusals.{words_refusal, form_refusal, range_refusal, undefined_refusal, repeated_refusal, place_refusal, count_refusal}
 use Rattle.snapshot.specs.Refusals.{edition_refusal}
 use Rattle.snapshot.specs.Words.{kind_of, arguments_at}
-use Rattle.snapshot.specs.Records.{Snapshot, name_at, crate_at, dependency_at, map_at, module_at, child_at, prelude_at, definition_at, scope_at, import_at}
-use Rattle.snapshot.specs.Records.{extern_at, member_at}
-use Rattle.check_rules.specs.Tests.{child_defined, child_placed, counts_of, crate_range, is_edition, crates_own, definition_defined, definition_placed}
-use Rattle.check_rules.specs.Tests.{definition_range, definition_repeated, dependency_defined, dependency_range, extern_defined, import_defined}
-use Rattle.check_rules.specs.Tests.{import_range, map_defined, map_placed, map_range, map_repeated, maps_filled, member_defined, member_placed, member_range}
-use Rattle.check_rules.specs.Tests.{module_defined, module_placed, name_range, ns_placed, prelude_defined, same_child, same_entry, same_extern, same_name}
-use Rattle.check_rules.specs.Tests.{same_prelude, scope_defined, scope_range}
-use Rattle.check_rules.specs.Steps.{Next, no, on, need, judge, judge_crate, add_name, add_crate, add_dependency, add_map, add_module, add_child, add_prelude}
-use Rattle.check_rules.specs.Steps.{add_definition, add_scope, add_import, add_extern, add_member, name_step, crate_step, dependency_step, map_step}
-use Rattle.check_rules.specs.Steps.{module_step, child_step, prelude_step, definition_step, scope_step, import_step, extern_step, member_step}
+use Rattle.snapshot.specs.Records.{Snapshot, name_at, crate_at, dependency_at, map_at, module_at, child_at}
+use Rattle.snapshot.specs.Records.{prelude_at, definition_at, scope_at, import_at, extern_at, member_at}
+use Rattle.check_rules.specs.Tests.{child_defined, child_placed, counts_of, crate_range, is_edition, crates_own, definition_defined}
+use Rattle.check_rules.specs.Tests.{definition_placed, definition_range, definition_repeated, dependency_defined, dependency_range}
+use Rattle.check_rules.specs.Tests.{extern_defined, import_defined, import_range, map_defined, map_placed, map_range, map_repeated, maps_filled}
+use Rattle.check_rules.specs.Tests.{member_defined, member_placed, member_range, module_defined, module_placed, name_range, ns_placed}
+use Rattle.check_rules.specs.Tests.{prelude_defined, same_child, same_entry, same_extern, same_name, same_prelude, scope_defined, scope_range}
+use Rattle.check_rules.specs.Steps.{Next, no, on, need, judge, judge_crate, add_name, add_crate, add_dependency, add_map}
+use Rattle.check_rules.specs.Steps.{add_module, add_child, add_prelude, add_definition, add_scope, add_import, add_extern}
+use Rattle.check_rules.specs.Steps.{add_member, name_step, crate_step, dependency_step, map_step, module_step, child_step}
+use Rattle.check_rules.specs.Steps.{prelude_step, definition_step, scope_step, import_step, extern_step, member_step}
 use Rattle.check_rules.specs.Verdict.{follows, arguments_from, record_step, step_at, Verdict, refuse, accept, finish, records, empty, verdict}
 
 -- the numbers of the check

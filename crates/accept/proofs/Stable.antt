@@ -7,11 +7,12 @@ use lib.ListN.{length, get_or, drop, get_or-append}
 use lib.Seq.{drop_at}
 use borrow.Author.Tests.{lt-ltb, le-ltb}
 use Rattle.snapshot.specs.Limits.{area_limit}
-use Rattle.snapshot.specs.Sizes.{crate_size, dependency_size, child_size, prelude_size, definition_size, scope_size, import_size, extern_size, member_size}
+use Rattle.snapshot.specs.Sizes.{crate_size, dependency_size, child_size, prelude_size}
+use Rattle.snapshot.specs.Sizes.{definition_size, scope_size, import_size, extern_size, member_size}
 use Rattle.snapshot.specs.Records.{map_at, crate_at, dependency_at, child_at, prelude_at, definition_at, scope_at, import_at, extern_at, member_at}
-use Rattle.snapshot.specs.Layouts.{crate_base, dependency_base, child_base, prelude_base, definition_base, scope_base, import_base, extern_base, member_base}
-use Rattle.snapshot.specs.Layouts.{module_map, module_head, map_root, own_map, names_of, maps_of, modules_of, records_of, snap_of, module_table, root_table}
-use Rattle.snapshot.specs.Layouts.{crate_table, table_words}
+use Rattle.snapshot.specs.Layouts.{crate_base, dependency_base, child_base, prelude_base, definition_base, scope_base}
+use Rattle.snapshot.specs.Layouts.{import_base, extern_base, member_base, module_map, module_head, map_root, own_map, names_of}
+use Rattle.snapshot.specs.Layouts.{maps_of, modules_of, records_of, snap_of, module_table, root_table, crate_table, table_words}
 use Rattle.snapshot.specs.declared.layout.Layout.{Layout}
 use Rattle.snapshot.proofs.Laws.{rows_ext}
 use Rattle.check_rules.specs.Tests.{no_map}

@@ -23,7 +23,8 @@ use Rattle.std.specs.Prelude.{Result}
 use Rattle.snapshot.specs.declared.refusal.Refusal.{Refusal}
 use Rattle.check_records.proofs.record_rules.Judged.{and_left, and_right}
 
-pub answers_at : (W A : List ℕ) (r : Result Layout Refusal) {k j n m : ℕ} {x y : Next} → k ≡ j → n ≡ m → x ≡ y → Answered W A j m y r → Answered W A k n x r
+pub answers_at : (W A : List ℕ) (r : Result Layout Refusal) {k j n m : ℕ} {x y : Next} → k ≡ j → n ≡ m → x ≡ y
+    → Answered W A j m y r → Answered W A k n x r
 answers_at W A r {k} {j} {n} {m} {x} {y} e f g a =
     subst (λ t. Answered W A t n x r) (sym e) (subst (λ t. Answered W A j t x r) (sym f) (subst (λ t. Answered W A j m t r) (sym g) a))
 
@@ -64,9 +65,10 @@ module _ (W : List ℕ) (at last : ℕ) (s : Snapshot) {k : ℕ} (ek : k ≡ kin
   turn_arguments h e g = turn_right h ∙ ap (λ b. need b form_refusal (record_step (kind_of (get_or W at 0)) W at s))
       (ap (arguments_from W (at + 1)) (sym e) ∙ g)
 
-  pub turn_on : {n : ℕ} → follows last k ≡ true → n ≡ arguments_at W at → arguments_from W (at + 1) n ≡ true → step_at W at last s ≡ record_step k W at s
-  turn_on h e g = turn_right h ∙ ap (λ b. need b form_refusal (record_step (kind_of (get_or W at 0)) W at s)) (ap (arguments_from W (at + 1)) (sym e) ∙ g)
-      ∙ ap (λ j. record_step j W at s) (sym ek)
+  pub turn_on : {n : ℕ} → follows last k ≡ true → n ≡ arguments_at W at → arguments_from W (at + 1) n ≡ true
+      → step_at W at last s ≡ record_step k W at s
+  turn_on h e g = turn_right h ∙ ap (λ b. need b form_refusal (record_step (kind_of (get_or W at 0)) W at s))
+      (ap (arguments_from W (at + 1)) (sym e) ∙ g) ∙ ap (λ j. record_step j W at s) (sym ek)
 
 -- a number that is no kind's
 pub follows_none : (last k : ℕ) → kind_with k ≡ None → follows last k ≡ false

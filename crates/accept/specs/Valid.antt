@@ -4,8 +4,8 @@ use Rattle.snapshot.specs.Limits.{word_limit, crate_limit, module_limit, name_li
 use Rattle.snapshot.specs.Words.{kind_of}
 use Rattle.snapshot.specs.Records.{Name, Crate, Dependency, Map, Module, Child, Prelude, Definition, Scope, Import, Extern, Member, Snapshot}
 use Rattle.snapshot.specs.Records.{definition_at, scope_at, import_at, extern_at}
-use Rattle.check_rules.specs.Tests.{Counts, counts_of, no_name, no_map, no_module, no_definition, is_edition, same_name, same_child, same_prelude, same_entry}
-use Rattle.check_rules.specs.Tests.{same_extern}
+use Rattle.check_rules.specs.Tests.{Counts, counts_of, no_name, no_map, no_module, no_definition, is_edition}
+use Rattle.check_rules.specs.Tests.{same_name, same_child, same_prelude, same_entry, same_extern}
 
 -- every element has P
 pub data Each {A : Type 0} (P : A → Type 0) : List A → Type 0 where

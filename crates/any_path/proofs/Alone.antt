@@ -10,16 +10,17 @@ use Rattle.snapshot.specs.Records.{Snapshot, Scope, Extern}
 use Rattle.accept.specs.Valid.{Each}
 use Rattle.accept.proofs.Accepted.{by_test}
 use Rattle.accept.proofs.Bools.{each_map, each_snoc}
+use Rattle.module_tree.proofs.Laws.{by_option}
 use Rattle.hir_def.specs.Finds.{or_first, select}
 use Rattle.hir_def.specs.Items.{types, module_kind, definition_of, item_of, module_item}
 use Rattle.hir_def.specs.declared.Item.{Item}
 use Rattle.hir_def.specs.declared.Item.TheVariants.{Mod, Def}
 use Rattle.hir_def.proofs.Lookups.{first_of_hit}
+use Rattle.hir_def.proofs.Every.{each_in}
 use Rattle.nameable.specs.Seen.{seen}
 use Rattle.nameable.specs.Paths.{Path, plain, Named, named, is_seen_in, as_named, extern_named, firsts, reads, means}
 use Rattle.nameable.specs.Breadth.{Way, is_met, with_meaning, added, single}
-use Rattle.nameable.proofs.Lists.{by_option}
-use Rattle.nameable.proofs.Reached.{each_in, named_in_lem, item_in_lem, with_old, with_keeps, with_meets}
+use Rattle.nameable.proofs.Reached.{named_in_lem, item_in_lem, with_old, with_keeps, with_meets}
 use Rattle.nameable.proofs.Queue.{first_of_append}
 use Rattle.any_path.specs.Rows.{leads_on, name_if}
 use Rattle.any_path.specs.Plain.{is_module, names_alone}

@@ -20,7 +20,7 @@ use Rattle.snapshot.specs.declared.ids.Namespace.{Namespace}
 use Rattle.snapshot.specs.declared.layout.Layout.{Layout}
 use Rattle.snapshot.proofs.Laws.{rows_next, rows_none, rows_whole}
 use Rattle.accept.specs.Post.{Reads}
-use Rattle.accept.specs.Valid.{Each, more, Valid}
+use Rattle.accept.specs.Valid.{Each, Valid}
 use Rattle.accept.proofs.Accepted.{by_test}
 use Rattle.accept.proofs.Trees.{accepted_tree}
 use Rattle.accept.proofs.Valid.{accepted_valid}
@@ -28,19 +28,20 @@ use Rattle.module_tree.specs.rules.Modules.{map_no, crate_of}
 use Rattle.module_tree.specs.rules.Privately.{block_step}
 use Rattle.module_tree.proofs.Laws.{Falls}
 use Rattle.module_tree.proofs.Reading.{length_modules}
+use Rattle.module_tree.proofs.Laws.{by_option}
 use Rattle.hir_def.specs.Finds.{first_of, first_some, or_first, select}
 use Rattle.hir_def.specs.Items.{types, module_item}
 use Rattle.hir_def.specs.Nameres.{steps_or, steps, prelude_of}
 use Rattle.hir_def.specs.declared.Item.{Item}
 use Rattle.hir_def.specs.declared.Item.TheVariants.{Mod, Def}
 use Rattle.hir_def.proofs.Laws.{steps_more}
+use Rattle.hir_def.proofs.Every.{each_append, each_in, each_map_select}
 use Rattle.nameable.specs.Paths.{Path, plain, Named, named, is_seen_in, as_named, entries_in, extern_named, externs_in, entries_over, scopes_from}
 use Rattle.nameable.specs.Paths.{prelude_entries, firsts, reads, item_in, means, place_in}
 use Rattle.nameable.specs.Breadth.{Way, with_meaning, added, single}
 use Rattle.nameable.specs.Queue.{seen_named}
-use Rattle.nameable.proofs.Lists.{by_option}
 use Rattle.nameable.proofs.Plenty.{plenty}
-use Rattle.nameable.proofs.Reached.{each_append, each_in, named_in_lem}
+use Rattle.nameable.proofs.Reached.{named_in_lem}
 use Rattle.nameable.proofs.Queue.{added_append, first_of_append}
 use Rattle.nameable.proofs.Lookups.{named_seen, first_mapped}
 use Rattle.read_back.specs.readings.Reads.{extern_named as extern_of_name}
@@ -185,20 +186,13 @@ module _ (s : Snapshot) (from n : ℕ) where
 
 -- Its module is one of the snapshot's, and its record is among the words.
 
-each_made_of : {A B : Type 0} {P : A → Type 0} {Q : B → Type 0} (f : A → B) (q : A → Bool) → ((x : A) → P x → Q (f x)) → {xs : List A} → Each P xs
-    → Each Q (map f (select q xs))
-unfolding select
-each_made_of f q g Each.none = Each.none
-each_made_of f q g (more {x = x} p h) =
-    by_test (q x) (λ t. rw (t, select) (more (g x p) (each_made_of f q g h))) (λ t. rw (t, select) (each_made_of f q g h))
-
 module _ (s : Snapshot) (ok : Valid s) (from ns : ℕ) where
   abbrev Placed : Named → Type 0
   Placed x = x.place < word_limit
 
   entries_placed : (m : ℕ) → Each Placed (entries_in s from ns m)
   unfolding entries_in
-  entries_placed m = each_made_of (as_named s) (is_seen_in s from ns m) (λ e h. h.place) ok.ranges.scopes
+  entries_placed m = each_map_select (is_seen_in s from ns m) (as_named s) (λ e h t. h.place) ok.ranges.scopes
 
   over_placed : (ms : List ℕ) → Each Placed (entries_over s from ns ms)
   unfolding entries_over
@@ -209,7 +203,7 @@ module _ (s : Snapshot) (ok : Valid s) (from ns : ℕ) where
   unfolding externs_in
   externs_placed =
       by_test (eqb ns types)
-      (λ t. rw (t, externs_in) (each_made_of extern_named (λ (x : Extern). eqb x.owner (crate_of s from)) (λ x h. h.place) ok.ranges.externs))
+      (λ t. rw (t, externs_in) (each_map_select (λ (x : Extern). eqb x.owner (crate_of s from)) extern_named (λ x h t. h.place) ok.ranges.externs))
       (λ t. rw (t, externs_in) Each.none)
 
   prelude_placed : (o : Option Prelude) → Each Placed (prelude_entries s from ns o)

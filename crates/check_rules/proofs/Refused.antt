@@ -3,12 +3,9 @@ use Prim.Native.Nat.{ℕ}
 use mathlib.Core.Path.{◌≡◌, refl}
 use mathlib.Core.List.{List, [], ◌∷◌, map}
 use mathlib.Core.Bool.{true, false}
-use Rattle.snapshot.specs.Lists.{rows, any, all, eq_list}
-use Rattle.snapshot.specs.Words.{arguments_of}
-use Rattle.check_rules.specs.Tests.{text_bound, padded}
-use Rattle.check_rules.specs.Steps.{Next, no, on, judge, judge_crate, name_step, crate_step, dependency_step, map_step, module_step, child_step}
-use Rattle.check_rules.specs.Steps.{prelude_step, definition_step, scope_step, import_step, extern_step, member_step}
-use Rattle.check_rules.specs.Verdict.{Verdict, refuse, accept, arguments_from, record_step, step_at, finish, records, empty, verdict}
+use Rattle.check_rules.specs.Steps.{Next, no, on, judge, judge_crate}
+use Rattle.check_rules.specs.Verdict.{Verdict, refuse, accept, empty, verdict}
+use Rattle.check_rules.specs.Worked.{verdict_on_literals}
 
 -- number and place of a refusal
 pub told : Verdict → List ℕ
@@ -68,6 +65,5 @@ pub refusals :
     )
     ≡ (32 ∷ 0 ∷ []) ∷ (34 ∷ 2 ∷ []) ∷ (31 ∷ 2 ∷ []) ∷ (32 ∷ 0 ∷ []) ∷ (43 ∷ 0 ∷ []) ∷ (33 ∷ 0 ∷ []) ∷ (35 ∷ 12 ∷ []) ∷ (35 ∷ 9 ∷ [])
     ∷ (34 ∷ 11 ∷ []) ∷ (34 ∷ 6 ∷ []) ∷ (32 ∷ 14 ∷ []) ∷ (35 ∷ 17 ∷ []) ∷ (35 ∷ 17 ∷ []) ∷ [] ∷ []
-unfolding told after verdict records step_at record_step finish arguments_from arguments_of name_step crate_step dependency_step map_step
-    module_step child_step prelude_step definition_step scope_step import_step extern_step member_step text_bound padded rows any all eq_list
+unfolding told after verdict_on_literals
 refusals = refl

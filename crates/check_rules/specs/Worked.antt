@@ -1,5 +1,5 @@
 -- The worked snapshot (samples/worked.snapshot): a crate with a module `a` that holds a function `f`.
-use Rattle.std.specs.Prelude.{ℕ, ◌≡◌, refl, List, [], ◌∷◌}
+use Rattle.std.specs.Prelude.{ℕ, ◌≡◌, refl, List, [], ◌∷◌, ⊤}
 use Rattle.snapshot.specs.Lists.{rows, any, all, eq_list}
 use Rattle.snapshot.specs.Words.{arguments_of}
 use Rattle.snapshot.specs.Records.{Snapshot}
@@ -35,7 +35,12 @@ worked_snapshot =
       members = [];
     }
 
-pub worked_accepted : verdict worked ≡ accept worked_snapshot
+-- what a row unfolds to compute the verdict on words that are written out
+unfoldable pub verdict_on_literals : ⊤
 unfolding verdict records step_at record_step finish arguments_from arguments_of name_step crate_step dependency_step map_step module_step
     child_step prelude_step definition_step scope_step import_step extern_step member_step text_bound padded rows any all eq_list
+verdict_on_literals = tt
+
+pub worked_accepted : verdict worked ≡ accept worked_snapshot
+unfolding verdict_on_literals
 worked_accepted = refl

@@ -3,19 +3,19 @@ use Prim.Native.Nat.{ℕ}
 use mathlib.Core.Path.{◌≡◌, refl}
 use mathlib.Core.List.{List, [], ◌∷◌, ◌++◌}
 use lib.ListN.{take, drop, replicate}
-use Rattle.snapshot.specs.Lists.{rows, any, all, eq_list}
-use Rattle.snapshot.specs.Words.{arguments_of}
+use Rattle.std.specs.Prelude.{⊤}
 use Rattle.check_records.specs.record_rules.Stands.{number_of}
-use Rattle.check_rules.specs.Tests.{text_bound, padded}
-use Rattle.check_rules.specs.Steps.{name_step, crate_step, dependency_step, map_step, module_step, child_step, prelude_step, definition_step}
-use Rattle.check_rules.specs.Steps.{scope_step}
-use Rattle.check_rules.specs.Steps.{import_step, extern_step, member_step}
-use Rattle.check_rules.specs.Verdict.{arguments_from, record_step, step_at, finish, records, verdict}
-use Rattle.check_rules.specs.Worked.{worked, worked_snapshot}
+use Rattle.check_rules.specs.Worked.{verdict_on_literals, worked, worked_snapshot}
 use Rattle.edit_rules.specs.Entries.{scope_words, first_from, scopes_end, entry_place}
 use Rattle.edit_rules.specs.Edits.{Edit, refused_by, edited, Operation, adding, removing, add_number, edit_fault, edited_words, edit_unless, edit_by}
 use Rattle.edit_rules.specs.Edits.{edit_within, edit_of}
 use Rattle.edit_rules.specs.Written.{each_words, tree_words, joined, snapshot_words}
+
+-- what a row unfolds to compute an edit of words that are written out
+unfoldable pub edit_on_literals : ⊤
+unfolding edit_of edit_within edit_by edit_unless edited_words edit_fault add_number number_of scope_words first_from scopes_end entry_place
+    verdict_on_literals
+edit_on_literals = tt
 
 -- the number of a refusal alone, or the words
 pub told : Edit → List ℕ
@@ -41,9 +41,7 @@ pub words :
     ∷ (take 29 worked ++ (0xB0000000 ∷ 0 ∷ 1 ∷ []))
     ∷ (take 21 worked ++ (drop 29 worked ++ (0xB0000000 ∷ 0 ∷ 1 ∷ [])))
     ∷ []
-unfolding after slice put told edit_of edit_within edit_by edit_unless edited_words edit_fault add_number number_of scope_words first_from
-    scopes_end entry_place verdict records step_at record_step finish arguments_from arguments_of name_step crate_step dependency_step
-    map_step module_step child_step prelude_step definition_step scope_step import_step extern_step member_step text_bound padded rows any all eq_list
+unfolding after slice put told edit_on_literals
 words = refl
 
 -- 32, 33 and 35 where the name is there already, then 47, then 48; 47 for a name that is not there
@@ -51,9 +49,7 @@ pub numbers :
     after 0 (put 0 0 0 0 4) ∷ after 0 (put 0 0 0 2 0) ∷ after 0 (put 0 2 1 1 0) ∷ after 0 (put 0 0 0 1 0) ∷ after 7 (put 0 1 1 1 0)
     ∷ after 8 (removing 0 1 1) ∷ after 8 (removing 1 1 0) ∷ []
     ≡ (32 ∷ []) ∷ (33 ∷ []) ∷ (35 ∷ []) ∷ (47 ∷ []) ∷ (48 ∷ []) ∷ (47 ∷ []) ∷ (47 ∷ []) ∷ []
-unfolding after slice put told edit_of edit_within edit_by edit_unless edited_words edit_fault add_number number_of scope_words first_from
-    scopes_end entry_place verdict records step_at record_step finish arguments_from arguments_of name_step crate_step dependency_step
-    map_step module_step child_step prelude_step definition_step scope_step import_step extern_step member_step text_bound padded rows any all eq_list
+unfolding after slice put told edit_on_literals
 numbers = refl
 
 pub written : snapshot_words worked_snapshot ≡ worked

@@ -5,18 +5,12 @@ use mathlib.Core.Bool.{Bool, true, ◌&&◌}
 use mathlib.Core.List.{List, [], ◌∷◌, ◌++◌}
 use lib.Dec.{eqb}
 use lib.ListN.{length, take, drop, replicate}
-use Rattle.snapshot.specs.Lists.{rows, any, all, eq_list}
-use Rattle.snapshot.specs.Words.{arguments_of}
-use Rattle.check_rules.specs.Tests.{text_bound, padded}
-use Rattle.check_rules.specs.Steps.{name_step, crate_step, dependency_step, map_step, module_step, child_step, prelude_step, definition_step}
-use Rattle.check_rules.specs.Steps.{scope_step}
-use Rattle.check_rules.specs.Steps.{import_step, extern_step, member_step}
-use Rattle.check_records.specs.record_rules.Stands.{number_of}
-use Rattle.check_rules.specs.Verdict.{arguments_from, record_step, step_at, finish, records, verdict}
+use Rattle.snapshot.specs.Lists.{all, eq_list}
 use Rattle.check_rules.specs.Worked.{worked}
 use Rattle.answer.specs.Answers.{zeros}
-use Rattle.edit_rules.specs.Entries.{entry_of, scope_words, first_from, scopes_end, entry_place}
-use Rattle.edit_rules.specs.Edits.{Operation, adding, removing, add_number, edit_fault, edited_words, edit_unless, edit_by, edit_within, edit_of}
+use Rattle.edit_rules.specs.Entries.{entry_of}
+use Rattle.edit_rules.specs.Edits.{Operation, adding, removing, edit_of}
+use Rattle.edit_rules.proofs.Worked.{edit_on_literals}
 use Rattle.edits.specs.Edits.{number_in, count_after, words_after}
 
 -- the slice and the words of its snapshot before the edit; the number, the count and the slice after it
@@ -30,10 +24,7 @@ pub record Row : Type 0 where
   pub after : List ℕ
 
 pub passes_all : List Row → Bool
-unfolding edit_of edit_within edit_by edit_unless edited_words edit_fault add_number number_of scope_words first_from scopes_end entry_place
-    number_in count_after words_after zeros verdict records step_at record_step finish arguments_from arguments_of name_step crate_step
-    dependency_step map_step module_step child_step prelude_step definition_step scope_step import_step extern_step member_step text_bound
-    padded rows any all eq_list
+unfolding number_in count_after words_after zeros edit_on_literals
 passes_all table =
     all (λ r. eqb (number_in (edit_of r.area r.words r.count r.edit)) r.number
     && eqb (count_after r.count (edit_of r.area r.words r.count r.edit)) r.left

@@ -333,10 +333,7 @@ module _ (s t : Snapshot) (v : Valid s) (w : Valid t) (sw : Whole s) (tw : Whole
 
   mixed_apart : (i j : ℕ) → i < length t.definitions → j < length t.definitions → is_other s t v w sw tw (definition_in t.definitions i) ≡ true
       → is_other s t v w sw tw (definition_in t.definitions j) ≡ false → definition_number s t i ≡ definition_number s t j → ⊥
-  mixed_apart i j li lj a b q =
-      let x = (definition_at_lem s t v w sw tw i li a).0 in
-      let y = (merged_same j lj b).0 in
-      omega arith
+  mixed_apart i j li lj a b q = omega (arith, (definition_at_lem s t v w sw tw i li a).0, (merged_same j lj b).0)
 
   ordered_apart : (i j : ℕ) → i < j → i < length t.definitions → j < length t.definitions → definition_number s t i ≡ definition_number s t j → ⊥
   ordered_apart i j h li lj q =

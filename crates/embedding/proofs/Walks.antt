@@ -20,9 +20,9 @@ use Rattle.hir_def.specs.ItemScope.{is_module_entry, entry_module}
 use Rattle.hir_def.specs.Nameres.{steps_or, steps, containers, children_of}
 use Rattle.hir_def.proofs.Laws.{by_number, Falls, steps_more}
 use Rattle.hir_def.proofs.Chains.{containing_falls}
+use Rattle.hir_def.proofs.Every.{each_append}
 use Rattle.find_path_spec.specs.Walk.{has, start_from, leads_to, unmet, walk, find_local_import_locations}
 use Rattle.find_path_spec.proofs.laws.Walks.{select_hit, select_miss, locations_more}
-use Rattle.find_path_spec.proofs.laws.Crates.{each_append}
 use Rattle.join_rules.specs.Joined.{Numbers, child_to}
 use Rattle.embedding.specs.Embeds.{Embeds}
 use Rattle.embedding.proofs.Chains.{eqb_moved, crates_compared, sees_moved, containers_moved}

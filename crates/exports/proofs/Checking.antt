@@ -12,7 +12,7 @@ use Rattle.snapshot.specs.Records.{Snapshot}
 use Rattle.snapshot.specs.Layouts.{snap_of}
 use Rattle.snapshot.specs.declared.layout.Layout.{Layout}
 use Rattle.snapshot.proofs.Laws.{length_rows}
-use Rattle.check_rules.specs.Verdict.{Verdict, refuse, accept, verdict, empty}
+use Rattle.check_rules.specs.Verdict.{Verdict, refuse, accept, verdict}
 use Rattle.std.specs.Prelude.{Ok, Err}
 use Rattle.snapshot.specs.Refusals.{refusal_number}
 use Rattle.accept.specs.Post.{Checked, Checks, check_of}
@@ -21,6 +21,7 @@ use Rattle.accept.proofs.Accepted.{by_test}
 use Rattle.answer.specs.Answers.{area_after}
 use Rattle.answer.specs.asked.StillChecked.{counted, StillChecked}
 use Rattle.answer.proofs.asked.Numbers.{refusal_positive}
+use Rattle.edits.proofs.Fresh.{accept_same}
 use Rattle.exports.specs.Answers.{number_of, answer_of, Answered}
 
 IsRefused : Verdict → Type 0
@@ -30,14 +31,6 @@ IsRefused (accept s) = ⊥
 apart : (n at : ℕ) (s : Snapshot) → refuse n at ≡ accept s → ⊥
 unfolding IsRefused
 apart n at s e = subst IsRefused e tt
-
-snapshot_in : Verdict → Snapshot
-snapshot_in (refuse n at) = empty
-snapshot_in (accept s) = s
-
-same_snapshot : (s t : Snapshot) → accept s ≡ accept t → s ≡ t
-unfolding snapshot_in
-same_snapshot s t e = ap snapshot_in e
 
 -- accepted words have a work area that serves
 judged : (n : ℕ) (W : List ℕ) (s : Snapshot) → check_of n W ≡ accept s → verdict W ≡ accept s
@@ -82,7 +75,7 @@ module _ (W A₀ A : List ℕ) (r : Checked) (k : Checks W A₀ A r) where
         tables = λ s h. (
           l,
           record { same = judged (length A₀) W (snap_of W A l) (sym q.same); tables = q.tables },
-          same_snapshot (snap_of W A l) s (q.same ∙ h),
+          accept_same (snap_of W A l) s (q.same ∙ h),
         );
         rest = λ s h. q.rest;
         cleared = λ m p h. absurd (apart m p (snap_of W A l) (sym h ∙ sym q.same));

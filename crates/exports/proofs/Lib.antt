@@ -1,6 +1,5 @@
 pub mod Asking
 pub mod Checking
-pub mod Lending
 pub mod Reaching
 pub mod Serving
 pub mod Texts

@@ -4,9 +4,8 @@ use mathlib.Core.Path.{◌≡◌, refl, sym, ◌∙◌, ap, ap₂}
 use mathlib.Core.List.{List, [], ◌∷◌, ◌++◌}
 use mathlib.Core.Bool.{Bool, false}
 use native.Mathlib.Omega.{arith}
-use native.Mathlib.Numerals.{add-one}
 use borrow.Author.Tests.{lt-ltb, le-ltb}
-use lib.ListN.{length, get_or, take, drop, set, length-take, length-append, length-drop}
+use lib.ListN.{length, get_or, take, drop, length-take}
 use lib.Seq.{get_or-take}
 use Rattle.snapshot.specs.Words.{pay_of, words_of, text_at}
 use Rattle.snapshot.specs.Records.{name_at}
@@ -23,22 +22,13 @@ use Rattle.exports.specs.Texts.{text_from, name_text, Copied, Named, name_raw, R
 
 -- how many bytes the words hold
 pub held_all : (ws : List ℕ) (b : ℕ) → words_of b ≤ length ws → b ≡ length (take b (unpacked ws))
-held_all ws b h =
-    let e = length-take b (unpacked ws) in
-    let u = length_unpacked ws in
-    omega arith
+held_all ws b h = omega (arith, length-take b (unpacked ws), length_unpacked ws)
 
 pub held_cut : (ws : List ℕ) (b : ℕ) → length ws < words_of b → 3 * length ws ≡ length (take b (unpacked ws))
-held_cut ws b h =
-    let e = length-take b (unpacked ws) in
-    let u = length_unpacked ws in
-    omega arith
+held_cut ws b h = omega (arith, length-take b (unpacked ws), length_unpacked ws)
 
 pub held_within : (ws : List ℕ) (b n : ℕ) → n ≡ length (take b (unpacked ws)) → n ≤ 3 * length ws
-held_within ws b n q =
-    let e = length-take b (unpacked ws) in
-    let u = length_unpacked ws in
-    omega arith
+held_within ws b n q = omega (arith, length-take b (unpacked ws), length_unpacked ws)
 
 take_held : (T : List ℕ) (b n : ℕ) → n ≡ length (take b T) → take n T ≡ take b T
 take_held T zero n e = rw e

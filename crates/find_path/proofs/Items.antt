@@ -28,7 +28,8 @@ use Rattle.find_path_spec.specs.declared.FindPathCtx.{FindPathCtx}
 use Rattle.find_path_choice.specs.Choices.{Choice}
 use Rattle.find_path_spec.specs.Rules.{first_found, scope_rule, prelude_rule}
 use Rattle.find_path_spec.specs.Meters.{from_tank}
-use Rattle.find_path_spec.specs.Charged.{Out, Found, found_of, variant_of, push_variant, after_enum, via_enum, or_enum, by_name, of_module, find_path_inner}
+use Rattle.find_path_spec.specs.Charged.{Out, Found, found_of, variant_of, push_variant, after_enum}
+use Rattle.find_path_spec.specs.Charged.{via_enum, or_enum, by_name, of_module, find_path_inner}
 use Rattle.find_path_spec.specs.Search.{best_local}
 use Rattle.find_path_spec.proofs.laws.Unfold.{EnumNoVariant, inner_more}
 use Rattle.find_path_spec.proofs.laws.Bounds.{Fits, more, either_fits, nothing_fits, scope_fits, prelude_fits, best_local_fits, best_within}

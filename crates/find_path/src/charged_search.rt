@@ -60,7 +60,8 @@ pub fn find_path_for_module(
     m: ModuleId,
     t: Tank,
 ) -> Found
-    requires { Prepared records.now.words.now area.old records.now.layout x × (m.0 < records.now.layout.modules) × (left ≤ path_limit) × (t.fuel + t.spent < 2 ^ 32) }
+    requires { Prepared records.now.words.now area.old records.now.layout x × (m.0 < records.now.layout.modules) × (left ≤ path_limit)
+        × (t.fuel + t.spent < 2 ^ 32) }
     ensures { Searched area.old (search_module Tank from_tank (snap_by records.now area.old) x left m.0 t)
         area.new result }
 {
@@ -293,7 +294,8 @@ fn find_import(
     h: usize,
     o: Found,
 ) -> Found
-    requires { Begun records.now.words.now area.old records.now.layout x left × ((import_at records.now.words.now h).container < records.now.layout.modules)
+    requires { Begun records.now.words.now area.old records.now.layout x left
+        × ((import_at records.now.words.now h).container < records.now.layout.modules)
         × ImportFits (counts_in records.now.layout) (import_at records.now.words.now h) × Held left (out_of o) }
     ensures { Searched area.old (one_import (snap_by records.now area.old) x left (out_of o)
         (import_at records.now.words.now h) (is_hidden (import_at records.now.words.now h))) area.new result }

@@ -146,7 +146,8 @@ fn find_by_name(records: &Records, area: &mut Area, x: FindPathCtx, item: Item, 
 
 /// The search for the item of a question with a full tank, for a limit in range.
 pub fn find_path(records: &Records, area: &mut Area, q: Query, fuel: usize) -> Found
-    requires { Reads records.now.words.now area.old records.now.layout × (q.definition.0 < records.now.layout.definitions) × (q.from.0 < records.now.layout.modules) × (q.ns ≤ namespace_limit) × (fuel ≤ fuel_limit) × (0 < q.limit) × (q.limit ≤ path_limit) }
+    requires { Reads records.now.words.now area.old records.now.layout × (q.definition.0 < records.now.layout.definitions)
+        × (q.from.0 < records.now.layout.modules) × (q.ns ≤ namespace_limit) × (fuel ≤ fuel_limit) × (0 < q.limit) × (q.limit ≤ path_limit) }
     ensures { Searched area.old (searched (snap_by records.now area.old) q fuel) area.new result }
 {
     let meter = Tank {

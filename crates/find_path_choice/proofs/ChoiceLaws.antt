@@ -23,8 +23,8 @@ use Rattle.find_path_choice.specs.Choices.{Choice}
 use Rattle.find_path_choice.specs.declared.Choice.{Choice as Path}
 use Rattle.find_path_choice.specs.Given.{given}
 use Rattle.find_path_choice.proofs.Names.{name_read}
-use Rattle.find_path_choice.specs.Choices.{name_len, is_prelude, path_kind_len, path_len, keyword, choice_new, extended, push, try_select, compare_bool}
-use Rattle.find_path_choice.specs.Choices.{and_then, compare_prelude, taken, better, shorter_if, length_left}
+use Rattle.find_path_choice.specs.Choices.{name_len, is_prelude, path_kind_len, path_len, keyword, choice_new, extended, push}
+use Rattle.find_path_choice.specs.Choices.{try_select, compare_bool, and_then, compare_prelude, taken, better, shorter_if, length_left}
 
 -- an answer is a path where the code has one
 pub given_some : (o : Option Path) → is_some o ≡ (given o).found

@@ -117,7 +117,8 @@ module _ (W A : List ℕ) (l : Layout) (from m : ℕ) where
 
   module _ {k j h : ℕ} (x : Meets (is_module_entry snapshot m) scope_at scope_size W (scope_base l) l.scopes k j h) where
     pub leads_hit : {t : ℕ} {b : Bool} → t ≡ entry_module snapshot (scope_at W h)
-        → b ≡ (eqb (crate_of snapshot t) (crate_of snapshot from) && sees snapshot from (scope_at W h)) → b ≡ true → leads_from k ≡ t ∷ leads_from (j + 1)
+        → b ≡ (eqb (crate_of snapshot t) (crate_of snapshot from) && sees snapshot from (scope_at W h)) → b ≡ true
+        → leads_from k ≡ t ∷ leads_from (j + 1)
     leads_hit e q p =
         ap (λ es. map (entry_module snapshot) (select near es)) x.next
         ∙ ap (map (entry_module snapshot))
@@ -126,7 +127,8 @@ module _ (W A : List ℕ) (l : Layout) (from m : ℕ) where
         ∙ ap (λ t. t ∷ leads_from (j + 1)) (sym e)
 
     pub leads_miss : {t : ℕ} {b : Bool} → t ≡ entry_module snapshot (scope_at W h)
-        → b ≡ (eqb (crate_of snapshot t) (crate_of snapshot from) && sees snapshot from (scope_at W h)) → b ≡ false → leads_from k ≡ leads_from (j + 1)
+        → b ≡ (eqb (crate_of snapshot t) (crate_of snapshot from) && sees snapshot from (scope_at W h)) → b ≡ false
+        → leads_from k ≡ leads_from (j + 1)
     leads_miss e q p =
         ap (λ es. map (entry_module snapshot) (select near es)) x.next
         ∙ ap (map (entry_module snapshot))

@@ -161,7 +161,13 @@ module _ (A : List ℕ) (s : Stack) (n : ℕ) (item : Item) (m : ℕ) (y : Ready
 
 pub ready_none : (A : List ℕ) (s : Stack) → table_words ≤ s.top → s.top + walk_room ≤ length A → Chain A s.place s.depth s.top
     → Ready A s 0
-ready_none A s t h c = record { tables = t; space = h; chain = c; fits = rw (run_none A s.top) (fits_none module_limit); places = λ i o. absurd (omega arith) }
+ready_none A s t h c = record {
+  tables = t;
+  space = h;
+  chain = c;
+  fits = rw (run_none A s.top) (fits_none module_limit);
+  places = λ i o. absurd (omega arith);
+}
 
 pub ready_after : (A : List ℕ) (s : Stack) (n : ℕ) (item : Item) (ms B : List ℕ) (r : ℕ) → Ready A s n → Pushed A s n item ms B r
     → length B ≡ length A → Ready B s r

@@ -85,7 +85,9 @@ fn push_containers(
 
 // Whether the module entry with its head at a place leads on: in the viewer's crate, and visible from the viewer.
 fn leads(db: &Snapshot, from: ModuleId, h: usize, to: ModuleId) -> bool
-    requires { (from.0 < db.now.records.layout.modules) × (to.0 < db.now.records.layout.modules) × (2 ≤ (scope_at db.now.records.words.now h).visibility → (scope_at db.now.records.words.now h).number < db.now.records.layout.modules) }
+    requires { (from.0 < db.now.records.layout.modules) × (to.0 < db.now.records.layout.modules)
+        × (2 ≤ (scope_at db.now.records.words.now h).visibility
+        → (scope_at db.now.records.words.now h).number < db.now.records.layout.modules) }
     ensures { result ≡ (eqb (crate_of (snap_in db.now) to.0)
         (crate_of (snap_in db.now) from.0) && sees (snap_in db.now)
         from.0 (scope_at db.now.records.words.now h)) }
@@ -137,8 +139,8 @@ pub fn find_local_import_locations(
     s: Stack,
     sought: Sought,
 ) -> usize
-    requires { Reads records.now.words.now area.old records.now.layout × (from.0 < records.now.layout.modules) × (table_words ≤ s.top) × (s.top + walk_room ≤ length area.old)
-        × Chain area.old s.place s.depth s.top }
+    requires { Reads records.now.words.now area.old records.now.layout × (from.0 < records.now.layout.modules) × (table_words ≤ s.top)
+        × (s.top + walk_room ≤ length area.old) × Chain area.old s.place s.depth s.top }
     ensures { Gathered area.old s.top (find_local_import_locations (snap_by records.now area.old)
         from.0 (visited (levels_of area.old s.place s.depth) sought.item)) area.new result }
 {

@@ -70,8 +70,8 @@ pub fn locations(
     s: Stack,
     sought: Sought,
 ) -> usize
-    requires { Reads records.now.words.now area.old records.now.layout × (from.0 < records.now.layout.modules) × (walk_end ≤ s.top) × (s.top + walk_room ≤ length area.old)
-        × Chain area.old s.place s.depth s.top × Walked (snap_by records.now area.old) from.0 area.old }
+    requires { Reads records.now.words.now area.old records.now.layout × (from.0 < records.now.layout.modules) × (walk_end ≤ s.top)
+        × (s.top + walk_room ≤ length area.old) × Chain area.old s.place s.depth s.top × Walked (snap_by records.now area.old) from.0 area.old }
     ensures { Gathered area.old s.top (find_local_import_locations (snap_by records.now area.old)
         from.0 (visited (levels_of area.old s.place s.depth) sought.item)) area.new result }
 {

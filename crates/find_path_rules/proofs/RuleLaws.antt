@@ -33,8 +33,9 @@ use Rattle.find_path_choice.specs.Choices.{Choice}
 use Rattle.find_path_spec.specs.declared.FindPathCtx.{FindPathCtx}
 use Rattle.find_path_choice.specs.Choices.{via_scope, via_extern, step_by, nothing, keyword, choice_new}
 use Rattle.find_path_spec.specs.Conditions.{EntryFits}
-use Rattle.find_path_spec.specs.Rules.{prefix_path_kind, first_found, single, find_in_scope, may_be_in_scope, scope_rule, is_usable, prelude_entry, in_prelude}
-use Rattle.find_path_spec.specs.Rules.{find_in_prelude, extern_kind, extern_name, root_rule, parent_kind, is_kw_kind_relative_to_from, keyword_of}
+use Rattle.find_path_spec.specs.Rules.{prefix_path_kind, first_found, single, find_in_scope, may_be_in_scope}
+use Rattle.find_path_spec.specs.Rules.{scope_rule, is_usable, prelude_entry, in_prelude, find_in_prelude, extern_kind}
+use Rattle.find_path_spec.specs.Rules.{extern_name, root_rule, parent_kind, is_kw_kind_relative_to_from, keyword_of}
 use Rattle.find_path_choice.proofs.ChoiceLaws.{taken_true, taken_false}
 
 -- the code's number of a path kind, and its test for `crate`
@@ -90,7 +91,8 @@ module _ (W A : List ℕ) (l : Layout) (r : Reads W A l) where
   unfolding names_of
   names_fit m item p y e = each_first _ y (ranges_read W A l (accepted_valid W (snap_of W A l) r.same)).scopes e
 
-  scope_entry_fits : (m : ℕ) (item : Item) (b fresh : Bool) (y : Scope) → scope_entry (snap_of W A l) m item b fresh ≡ Some y → ScopeFits (counts_in l) y
+  scope_entry_fits : (m : ℕ) (item : Item) (b fresh : Bool) (y : Scope) → scope_entry (snap_of W A l) m item b fresh ≡ Some y
+      → ScopeFits (counts_in l) y
   unfolding scope_entry
   scope_entry_fits m item b fresh y e =
       some_first _

@@ -16,8 +16,9 @@ ghost use Rattle.find_path_choice.specs.StepRules.{rule_number};
 ghost use Rattle.find_path_choice.specs.Given.{given};
 ghost use Rattle.find_path_spec.specs.declared.FindPathCtx.{FindPathCtx};
 ghost use Rattle.find_path_spec.specs.Conditions.{EntryFits};
-ghost use Rattle.find_path_spec.specs.Rules.{prefix_path_kind, single as single_of, find_in_scope, may_be_in_scope, scope_rule, prelude_entry, find_in_prelude};
-ghost use Rattle.find_path_spec.specs.Rules.{prelude_rule, extern_name, root_rule, parent_kind, is_kw_kind_relative_to_from, keyword_of, module_rules};
+ghost use Rattle.find_path_spec.specs.Rules.{prefix_path_kind, single as single_of, find_in_scope, may_be_in_scope};
+ghost use Rattle.find_path_spec.specs.Rules.{scope_rule, prelude_entry, find_in_prelude, prelude_rule, extern_name};
+ghost use Rattle.find_path_spec.specs.Rules.{root_rule, parent_kind, is_kw_kind_relative_to_from, keyword_of, module_rules};
 
 pub mod path_context;
 pub mod rule_lookups;
@@ -89,7 +90,8 @@ pub fn scope_rule(db: &Snapshot, x: FindPathCtx, item: Item) -> Option<Choice>
 
 // A prelude's entry, if visible and not another thing's name here.
 fn prelude_entry(db: &Snapshot, x: FindPathCtx, item: Item, e: Option<usize>) -> Option<usize>
-    requires { (x.from.0 < db.now.records.layout.modules) × ((h : ℕ) → e ≡ Some h → ScopeFits (counts_in db.now.records.layout) (scope_at db.now.records.words.now h)) }
+    requires { (x.from.0 < db.now.records.layout.modules)
+        × ((h : ℕ) → e ≡ Some h → ScopeFits (counts_in db.now.records.layout) (scope_at db.now.records.words.now h)) }
     ensures { (entry_of scope_at db.now.records.words.now result ≡ prelude_entry (snap_in db.now) x item
         (entry_of scope_at db.now.records.words.now e)) × EntryFits db.now.records.words.now db.now.records.layout result }
 {
@@ -130,7 +132,8 @@ pub fn prelude_rule(db: &Snapshot, x: FindPathCtx, item: Item) -> Option<Choice>
 
 // The crate's root by its extern name, with `::` where the name is another thing's here.
 fn extern_rule(db: &Snapshot, x: FindPathCtx, m: ModuleId, e: Option<usize>) -> Option<Choice>
-    requires { (x.from.0 < db.now.records.layout.modules) × ((h : ℕ) → e ≡ Some h → ExternFits (counts_in db.now.records.layout) (extern_at db.now.records.words.now h)) }
+    requires { (x.from.0 < db.now.records.layout.modules)
+        × ((h : ℕ) → e ≡ Some h → ExternFits (counts_in db.now.records.layout) (extern_at db.now.records.words.now h)) }
     ensures { given result ≡ extern_name (snap_in db.now) x m.0 (entry_of extern_at db.now.records.words.now e) }
 {
     let h = e?;

@@ -96,7 +96,8 @@ fn is_fresh(db: &Snapshot, x: FindPathCtx, m: ModuleId, item: Item, rule: Rule, 
 
 // The first of the module's entries for the item that isn't deprecated and passes the tests of the rule; where there is none, the first
 // of its entries for the item, with all records read.
-// `hir_def::item_scope::fresh_of` calls `preferred` too, with the test of a declared entry where this has that of the rule: the call is all that they share.
+// `hir_def::item_scope::fresh_of` calls `preferred` too, with the test of a declared entry where this has that of the rule: the call is all
+// that they share.
 fn fresh_of(db: &Snapshot, x: FindPathCtx, m: ModuleId, item: Item, rule: Rule) -> Lookup
     requires { x.from.0 < db.now.records.layout.modules }
     ensures { (entry_of scope_at db.now.records.words.now result.entry ≡ preferred true (snap_in db.now)

@@ -25,29 +25,24 @@ use Rattle.hir_def.specs.Nameres.{extern_of, dependencies_of, lang_of, sysroot_f
 use Rattle.hir_def.specs.ImportMap.{import_info_for}
 use Rattle.hir_def.proofs.Plain.{plainly}
 use Rattle.read_back.specs.readings.Reads as Reads
-use Rattle.read_back.specs.readings.Reads.{outward, scopes_from, stands_for, meaning, entry_or, extern_named, extern_means, in_externs, prelude_means}
-use Rattle.read_back.specs.readings.Reads.{in_prelude_of}
-use Rattle.read_back.specs.readings.Reads.{entry_from, first_name, variant_named, variant_in, later_name, after, looked_in, follow, absolutely, parent_means}
-use Rattle.read_back.specs.readings.Reads.{reads_to}
-use Rattle.read_back.specs.readings.Reads.{is_the, reads_back}
+use Rattle.read_back.specs.readings.Reads.{outward, scopes_from, stands_for, meaning, entry_or, extern_named, extern_means, in_externs}
+use Rattle.read_back.specs.readings.Reads.{prelude_means, in_prelude_of, entry_from, first_name, variant_named, variant_in, later_name}
+use Rattle.read_back.specs.readings.Reads.{after, looked_in, follow, absolutely, parent_means, reads_to, is_the, reads_back}
 use Rattle.find_path_spec.specs.declared.Query.{Query}
 use Rattle.find_path_spec.specs.declared.Report.{Report}
 use Rattle.find_path_spec.specs.declared.Question.{Question}
-use Rattle.find_path_choice.specs.Choices.{name_data, is_prelude, path_kind_len, path_len, keyword, choice_new, extended, push, unstably, compare_bool}
-use Rattle.find_path_choice.specs.Choices.{and_then}
-use Rattle.find_path_choice.specs.Choices.{compare_prelude, taken, better, try_select, shorter_if, length_left}
+use Rattle.find_path_choice.specs.Choices.{name_data, is_prelude, path_kind_len, path_len, keyword, choice_new, extended, push, unstably}
+use Rattle.find_path_choice.specs.Choices.{compare_bool, and_then, compare_prelude, taken, better, try_select, shorter_if, length_left}
 use Rattle.find_path_spec.specs.Walk.{has, visited, start_from, leads_to, unmet, walk, find_local_import_locations}
-use Rattle.find_path_spec.specs.Rules.{prefix_path_kind, plain_if, module_in, context_of, sought_of, first_found, single, find_in_scope, may_be_in_scope}
-use Rattle.find_path_spec.specs.Rules.{scope_rule, same_here, prelude_entry, in_prelude, find_in_prelude, prelude_rule, extern_kind, extern_name}
-use Rattle.find_path_spec.specs.Rules.{root_rule}
-use Rattle.find_path_spec.specs.Rules.{parent_kind, is_kw_kind_relative_to_from, keyword_of, module_rules}
+use Rattle.find_path_spec.specs.Rules.{prefix_path_kind, plain_if, module_in, context_of, sought_of, first_found, single, find_in_scope}
+use Rattle.find_path_spec.specs.Rules.{may_be_in_scope, scope_rule, same_here, prelude_entry, in_prelude, find_in_prelude, prelude_rule}
+use Rattle.find_path_spec.specs.Rules.{extern_kind, extern_name, root_rule, parent_kind, is_kw_kind_relative_to_from, keyword_of, module_rules}
 use Rattle.find_path_spec.specs.Local.{offer, offer_entry, entry_if, importable_name, location, each_location, calculate_best_path_local, or_local}
 use Rattle.find_path_spec.specs.Local.{find_path_for_module_local}
 use Rattle.find_path_spec.specs.Meters.{drained, draw, from_tank, filled, counted}
-use Rattle.find_path_spec.specs.Charged.{langs, one_or_none, is_at, variant_of, push_variant, offer_import, find_import, find_imports, find_in_dep}
-use Rattle.find_path_spec.specs.Charged.{find_in_deps}
-use Rattle.find_path_spec.specs.Charged.{find_in_sysroot, go_on, after_charge, calculate_best_path, or_charged, find_path_for_module, after_enum, via_enum}
-use Rattle.find_path_spec.specs.Charged.{or_enum, by_name, of_module, find_path_inner}
+use Rattle.find_path_spec.specs.Charged.{langs, one_or_none, is_at, variant_of, push_variant, offer_import, find_import, find_imports}
+use Rattle.find_path_spec.specs.Charged.{find_in_dep, find_in_deps, find_in_sysroot, go_on, after_charge, calculate_best_path, or_charged}
+use Rattle.find_path_spec.specs.Charged.{find_path_for_module, after_enum, via_enum, or_enum, by_name, of_module, find_path_inner}
 use Rattle.find_path_spec.specs.Search.{builtin_choice, local_to, search_local, best_local, module_to, search_module, item_to, search_item, from_home}
 use Rattle.find_path_spec.specs.Search.{from_item, find_path}
 use Rattle.find_path_spec.specs.Report.{call_fault, question_fault, refused, flag, misleads, outcome_by, reported, searched, searched_freely}

@@ -17,7 +17,6 @@ pub mod Walks
 pub mod Visited
 pub mod Plain
 pub mod Reading
-pub mod Chains
 pub mod Lines
 pub mod Tables
 pub mod Fewer

@@ -11,7 +11,8 @@ use Rattle.snapshot.specs.Records.{Scope, scope_at, import_at}
 use Rattle.snapshot.specs.Layouts.{snap_of, import_base, item_keys}
 use Rattle.snapshot.specs.declared.layout.Layout.{Layout}
 use Rattle.record_index.specs.Halves.{half_at}
-use Rattle.record_index.specs.Index.{definition_in, item_number, import_key, keys_of, heads_of, links_of, count_of, base_of, size_of, key_at, key_of, First, Follows}
+use Rattle.record_index.specs.Index.{definition_in, item_number, import_key, keys_of, heads_of, links_of}
+use Rattle.record_index.specs.Index.{count_of, base_of, size_of, key_at, key_of, First, Follows}
 use Rattle.record_index.specs.declared.chains.Chain.{Chain}
 use Rattle.record_index.specs.declared.chains.Chain.TheVariants.{Items, Imports}
 use Rattle.record_index.proofs.Chaining.{first_next, first_none}
@@ -45,7 +46,8 @@ module _ (W A : List ℕ) (l : Layout) (c : Chain) (m k : ℕ) (r : Reads W A l)
       → First (key_of W l c) (count_of l c) m k v
   from_head {v} q n h t e =
       subst (λ j. First (key_of W l c) (count_of l c) m j v) (sym q)
-      (subst (First (key_of W l c) (count_of l c) m 0) (sym (e ∙ ap (λ z. half_at A (z + m)) t)) ((r.tables.index.chains c).heads m (omega (arith, n, h))))
+      (subst (First (key_of W l c) (count_of l c) m 0) (sym (e ∙ ap (λ z. half_at A (z + m)) t))
+      ((r.tables.index.chains c).heads m (omega (arith, n, h))))
 
   -- a number that is no key
   pub from_none : {v n : ℕ} → k ≡ 0 → n ≡ keys_of c → n ≤ m → v ≡ count_of l c → First (key_of W l c) (count_of l c) m k v

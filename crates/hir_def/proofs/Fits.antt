@@ -9,20 +9,20 @@ use lib.Dec.{eqb}
 use lib.ListN.{length}
 use borrow.Author.Tests.{eqb-true, eqb-false}
 use Rattle.snapshot.specs.Sizes.{definition_size, scope_size, import_size}
-use Rattle.snapshot.specs.Records.{Scope, Import, scope_at, import_at, prelude_at, extern_at, definition_at}
+use Rattle.snapshot.specs.Records.{Scope, Import, scope_at, import_at, extern_at, definition_at}
 use Rattle.snapshot.specs.Layouts.{word_count, definition_base, scope_base, import_base, snap_of}
 use Rattle.snapshot.specs.declared.layout.Layout.{Layout}
 use Rattle.snapshot.proofs.Laws.{length_rows}
 use Rattle.check_records.specs.record_rules.Stands.{counts_in}
 use Rattle.accept.specs.Post.{Reads}
-use Rattle.accept.specs.Valid.{Each, more, ScopeFits, ImportFits, PreludeFits, ExternFits, DefinitionFits, Ranges, Valid}
+use Rattle.accept.specs.Valid.{Each, more, ScopeFits, ImportFits, ExternFits, DefinitionFits, Ranges, Valid}
 use Rattle.accept.proofs.Accepted.{by_test}
 use Rattle.accept.proofs.Bools.{and_right}
 use Rattle.accept.proofs.Valid.{accepted_valid}
 use Rattle.accept.proofs.Reading.{ranges_read, definition_read, scope_read, import_read}
 use Rattle.hir_def.specs.Items.{definition_of, item_of, home_of}
 use Rattle.hir_def.specs.ItemScope.{name_of, names_of, is_fresh, preferred, get}
-use Rattle.hir_def.specs.Nameres.{prelude_of, extern_of}
+use Rattle.hir_def.specs.Nameres.{extern_of}
 use Rattle.hir_def.specs.Entries.{Known, Meets}
 use Rattle.hir_def.specs.Spans.{Covers}
 use Rattle.hir_def.specs.declared.Item.{Item}
@@ -67,10 +67,6 @@ module _ (W A : List ℕ) (l : Layout) (r : Reads W A l) where
   pub get_fits : (m ns name h : ℕ) → Some (scope_at W h) ≡ get (snap_of W A l) m ns name → ScopeFits (counts_in l) (scope_at W h)
   unfolding get
   get_fits m ns name h e = each_first _ _ ranges.scopes (sym e)
-
-  pub prelude_fits : (k h : ℕ) → Some (prelude_at W h) ≡ prelude_of (snap_of W A l) k → PreludeFits (counts_in l) (prelude_at W h)
-  unfolding prelude_of
-  prelude_fits k h e = each_first _ _ ranges.preludes (sym e)
 
   pub extern_fits : (c m h : ℕ) → Some (extern_at W h) ≡ extern_of (snap_of W A l) c m → ExternFits (counts_in l) (extern_at W h)
   unfolding extern_of

@@ -5,9 +5,8 @@ use mathlib.Core.Bool.{Bool, true, false, not}
 use native.Mathlib.Omega.{arith}
 use lib.Dec.{eqb}
 use borrow.Author.Tests.{eqb-true, eqb-false, not-true, not-false}
-use Rattle.std.specs.Prelude.{Option, Some, None}
+use Rattle.std.specs.Prelude.{Option, Some}
 use Rattle.std.specs.Option.{option_eq}
-use Rattle.std.proofs.lemmas.Option.{none-some}
 use Rattle.snapshot.specs.DefinitionKinds.{definition_kind_number, definition_kind_of}
 use Rattle.snapshot.specs.contracts.ids.DefinitionKindPartialEq.TheImpl.{eq-value}
 use Rattle.snapshot.specs.declared.ids.DefinitionKind.{DefinitionKind}
@@ -59,18 +58,6 @@ tested k (suc (suc (suc zero))) = same Builtin k
 tested k (suc (suc (suc (suc zero)))) = same Other k
 tested k (suc (suc (suc (suc (suc zero))))) = same Macro k
 tested k (suc (suc (suc (suc (suc (suc n)))))) = past k n
-
-kept : (k : DefinitionKind) → definition_kind_of (definition_kind_number k) ≡ Some k
-kept Module = refl
-kept Variant = refl
-kept Builtin = refl
-kept Other = refl
-kept Macro = refl
-
--- of another kind, or of none
-
-pub kind_none : (k : DefinitionKind) (n : ℕ) → definition_kind_of n ≡ None → n ≡ definition_kind_number k → ⊥
-kind_none k n e z = none-some k (sym e ∙ ap definition_kind_of z ∙ kept k)
 
 -- what `==` and `!=` say
 

@@ -3,6 +3,7 @@ pub mod Along
 pub mod Ancestors
 pub mod Chains
 pub mod Climbs
+pub mod Every
 pub mod Fits
 pub mod Found
 pub mod Fresh
@@ -13,4 +14,5 @@ pub mod Lookups
 pub mod Parts
 pub mod Plain
 pub mod Reading
+pub mod Same
 pub mod Searches

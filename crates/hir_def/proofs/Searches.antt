@@ -12,7 +12,7 @@ use native.Mathlib.Omega.{arith}
 use native.Mathlib.Nat.{add-zero}
 use Rattle.snapshot.specs.Ids.{plus_one}
 use Rattle.snapshot.specs.Lists.{rows}
-use Rattle.snapshot.specs.Layouts.{records_of, snap_of}
+use Rattle.snapshot.specs.Layouts.{snap_of}
 use Rattle.snapshot.specs.Records.{Scope, scope_at}
 use Rattle.snapshot.specs.declared.ids.ModuleId.{ModuleId}
 use Rattle.snapshot.specs.declared.layout.Layout.{Layout}
@@ -150,13 +150,6 @@ module _ {R : Type 0} (q : R → Bool) (f : List ℕ → ℕ → R) (W : List �
   first_in e x =
       first_by q f W {P = P} size n at.starts agree e
       (subst (λ z. FirstBy P z s.base n e) at.sized (subst (λ c. FirstBy P s.size s.base c e) at.counts x))
-
--- the records of a span
-pub spanned : {R : Type 0} (f : List ℕ → ℕ → R) (W : List ℕ) {s : Span} {base size n : ℕ} → Covers s base size n
-    → records_of f s.size W s.base s.count ≡ records_of f size W base n
-spanned f W {s} {base} {size} {n} at =
-    ap (λ c. records_of f s.size W s.base c) at.counts ∙ ap (λ z. records_of f z W s.base n) at.sized
-    ∙ ap (λ b. records_of f size W b n) at.starts
 
 -- a search outwards
 module _ {F : ModuleId → Option ℕ → Type 0} {S : ModuleId → Option ModuleId → Type 0} {W : List ℕ} {f : ℕ → Option Scope} {step : ℕ → ℕ} {from : ℕ}

@@ -81,7 +81,8 @@ fn is_among(words: &[u32], h: usize, c: Crate, which: Which) -> bool
 
 /// The next of these dependencies of the crate, from the dependency number k on.
 pub fn next_dependency(db: &Snapshot, k: usize, c: Crate, which: Which) -> Option<Place>
-    ensures { NextOf (among c.0 which) dependency_at dependency_size db.now.records.words.now (dependency_base db.now.records.layout) db.now.records.layout.dependencies k result }
+    ensures { NextOf (among c.0 which) dependency_at dependency_size db.now.records.words.now
+        (dependency_base db.now.records.layout) db.now.records.layout.dependencies k result }
 {
     let test = |h| is_among(db.records.words, h, c, which);
     let part = part_of(db, Tables::DEPENDENCIES, c);

@@ -50,7 +50,8 @@ pub fn entry_named(db: &Snapshot, from: ModuleId, ns: usize, name: Name) -> Opti
 }
 
 // Whether an entry stands for something else than a module.
-// The negation of `find_path_rules::rule_lookups::same_here` for a module; each is stated over a definition of its own, and that one over a question's context.
+// The negation of `find_path_rules::rule_lookups::same_here` for a module; each is stated over a definition of its own, and that one over a
+// question's context.
 fn is_other(records: &Records, e: Option<usize>, m: ModuleId) -> bool
     ensures { (A : List ℕ) → result ≡ is_other (snap_by records.now A) m.0 (entry_of scope_at records.now.words.now e) }
 {

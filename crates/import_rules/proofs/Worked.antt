@@ -1,25 +1,26 @@
 -- The imports of crates of small snapshots, worked out by hand from import_map.rs and computed.
-use Prim.Native.Nat.{ℕ, ◌+◌}
+use Prim.Native.Nat.{ℕ}
 use mathlib.Core.Path.{◌≡◌, refl}
 use mathlib.Core.List.{List, [], ◌∷◌, ◌++◌}
 use mathlib.Core.Bool.{Bool, true, false, ◌&&◌}
-use Rattle.snapshot.specs.Lists.{rows, any, all, eq_list}
-use Rattle.snapshot.specs.Words.{arguments_of}
+use Rattle.std.specs.Prelude.{⊤}
+use Rattle.snapshot.specs.Lists.{eq_list}
 use Rattle.snapshot.specs.Records.{Snapshot, Import}
-use Rattle.check_rules.specs.Tests.{text_bound, padded}
-use Rattle.check_rules.specs.Steps.{name_step, crate_step, dependency_step, map_step, module_step, child_step, prelude_step, definition_step}
-use Rattle.check_rules.specs.Steps.{scope_step}
-use Rattle.check_rules.specs.Steps.{import_step, extern_step, member_step}
-use Rattle.check_rules.specs.Verdict.{Verdict, refuse, accept, arguments_from, record_step, step_at, finish, records, verdict}
-use Rattle.check_rules.specs.Worked.{worked}
+use Rattle.check_rules.specs.Verdict.{Verdict, refuse, accept, verdict}
+use Rattle.check_rules.specs.Worked.{verdict_on_literals, worked}
 use Rattle.hir_def.specs.Finds.{place_of, select}
 use Rattle.hir_def.specs.Items.{definition_of, root_of, own_map}
 use Rattle.find_path_choice.specs.Choices.{name_data}
 use Rattle.find_path_spec.specs.Line.{unpacked, text_of}
 use Rattle.find_path_spec.proofs.Worked.{head, named}
 use Rattle.import_rules.specs.Collect.{text_before, entry_before, insert_by, sort_into, entries_of, piled, visits, modules_from, member_ns}
-use Rattle.import_rules.specs.Collect.{imports_of}
-use Rattle.import_rules.specs.Collect.{imports_in, imports_over, collected, words_of}
+use Rattle.import_rules.specs.Collect.{imports_of, imports_in, imports_over, collected, words_of}
+
+-- what a row unfolds to compute what is collected from words that are written out
+unfoldable pub collected_on_literals : ⊤
+unfolding collected imports_over imports_in imports_of member_ns modules_from visits piled entries_of sort_into insert_by entry_before
+    text_before words_of text_of unpacked name_data definition_of root_of own_map place_of select verdict_on_literals
+collected_on_literals = tt
 
 -- a crate and its imports
 pub record Row : Type 0 where
@@ -44,10 +45,7 @@ pub worked_imports : collects (verdict worked) (record {
   imports =
       line 0 0 0 0 0 0 ∷ line 0 1 1 1 1 0 ∷ [];
 } ∷ []) ≡ true
-unfolding collects agrees line collected imports_over imports_in imports_of member_ns modules_from visits piled entries_of sort_into
-    insert_by entry_before text_before words_of text_of unpacked name_data definition_of root_of own_map place_of select verdict records
-    step_at record_step finish arguments_from arguments_of name_step crate_step dependency_step map_step module_step child_step prelude_step
-    definition_step scope_step import_step extern_step member_step text_bound padded rows any all eq_list
+unfolding collects agrees line collected_on_literals
 worked_imports = refl
 
 -- Crate 0 with the modules 0, its root, and 1 `b` and 2 `ab` below it; crate 1 with the module 3, its root. Names: 0 `b`, 1 `ab`, 2 `c`, 3
@@ -93,8 +91,5 @@ pub member_imports : collects (verdict with_members)
           line 1 2 8 5 3 3 ∷ [];
     }
     ∷ []) ≡ true
-unfolding collects agrees line with_members named head collected imports_over imports_in imports_of member_ns modules_from visits piled
-    entries_of sort_into insert_by entry_before text_before words_of text_of unpacked name_data definition_of root_of own_map place_of select
-    verdict records step_at record_step finish arguments_from arguments_of name_step crate_step dependency_step map_step module_step child_step
-    prelude_step definition_step scope_step import_step extern_step member_step text_bound padded rows any all eq_list
+unfolding collects agrees line with_members named head collected_on_literals
 member_imports = refl

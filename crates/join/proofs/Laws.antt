@@ -7,7 +7,7 @@ use native.Mathlib.Omega.{arith}
 use native.Mathlib.Nat.{zero-add}
 use borrow.Author.Tests.{lt-ltb, le-ltb, le-leb, lt-leb, leb-true, not-true, not-false}
 use lib.Dec.{leb}
-use lib.ListN.{length, get_or, drop, length-append}
+use lib.ListN.{length, get_or, drop, length-append, length-map}
 use lib.Seq.{sets, sets-eq}
 use Rattle.snapshot.specs.Limits.{word_limit, crate_limit, module_limit, name_limit, definition_limit}
 use Rattle.snapshot.specs.Records.{Snapshot}
@@ -25,7 +25,6 @@ use Rattle.join_rules.specs.Joined.{is_new, merged, same_builtin, second_numbers
 use Rattle.join_rules.specs.Joined.{Joining}
 use Rattle.join_rules.specs.Joined.{refused_by, joined_as, join_in, join_by, join_of}
 use Rattle.join_rules.proofs.Joins.{joined_accepted}
-use Rattle.join_rules.proofs.Merged.{map_length}
 use Rattle.join.specs.numbers.Parts.{part_of, Part, Ready}
 use Rattle.join.specs.numbers.Numbered.{Numbered}
 use Rattle.join.specs.declared.numbers.tables.New.{New}
@@ -103,11 +102,7 @@ module _ {W X A B : List ℕ} {l m : Layout} {n : New} (r : Ready W X A l m) (f 
 
   name_count : l.names + n.names ≡ length (together s t).names
   unfolding together merged
-  name_count =
-      let a = r.first.counted.names in
-      let b = f.names in
-      let c = length-append s.names (select (is_new same_name s.names) t.names) in
-      omega arith
+  name_count = omega (arith, r.first.counted.names, f.names, length-append s.names (select (is_new same_name s.names) t.names))
 
   definition_count : l.definitions + n.definitions ≡ length (together s t).definitions
   unfolding together
@@ -116,16 +111,12 @@ module _ {W X A B : List ℕ} {l m : Layout} {n : New} (r : Ready W X A l m) (f 
       let b = f.definitions in
       let ds = select (is_new (same_builtin s t) s.definitions) t.definitions in
       let c = length-append s.definitions (map (definition_to (second_numbers s t)) ds) in
-      let d = map_length (definition_to (second_numbers s t)) ds in
+      let d = length-map ds (definition_to (second_numbers s t)) in
       omega arith
 
   crate_count : l.crates + m.crates ≡ length (together s t).crates
   unfolding together
-  crate_count =
-      let a = r.first.counted.crates in
-      let b = second.counted.crates in
-      let c = length-append s.crates t.crates in
-      omega arith
+  crate_count = omega (arith, r.first.counted.crates, second.counted.crates, length-append s.crates t.crates)
 
   module_count : l.modules + m.modules ≡ length (together s t).modules
   unfolding together
@@ -133,7 +124,7 @@ module _ {W X A B : List ℕ} {l m : Layout} {n : New} (r : Ready W X A l m) (f 
       let a = r.first.counted.modules in
       let b = second.counted.modules in
       let c = length-append s.modules (map (module_to (second_numbers s t)) t.modules) in
-      let d = map_length (module_to (second_numbers s t)) t.modules in
+      let d = length-map t.modules (module_to (second_numbers s t)) in
       omega arith
 
   -- the sums that the limits are asked of

@@ -17,13 +17,13 @@ use Rattle.accept.specs.Valid.{Valid}
 use Rattle.accept.proofs.Bools.{each_map, each_at}
 use Rattle.accept.proofs.Valid.{accepted_valid}
 use Rattle.hir_def.specs.Finds.{select}
+use Rattle.hir_def.proofs.Every.{each_mapped}
 use Rattle.edit_rules.specs.Entries.{scope_words}
 use Rattle.edit_rules.specs.Written.{name_words, crate_words, dependency_words, child_words, prelude_words, definition_words, import_words}
 use Rattle.edit_rules.specs.Written.{extern_words}
 use Rattle.edit_rules.specs.Written.{member_words, each_words, tree_words, joined, snapshot_words}
 use Rattle.join_rules.specs.Joined.{is_new, merged, same_builtin, Numbers, second_numbers, dependency_to, map_to, module_to, child_to, prelude_to}
 use Rattle.join_rules.specs.Joined.{definition_to, scope_to, import_to, extern_to, member_to, together, joined_words}
-use Rattle.join_rules.proofs.Merged.{each_mapped}
 use Rattle.join_rules.proofs.Runs.{At, words_append}
 use Rattle.join_rules.proofs.Stages.{Whole}
 use Rattle.join_rules.proofs.Wholes.{accepted_whole}
@@ -84,12 +84,7 @@ module _ (A W X : List ℕ) (l m : Layout) where
     kt = part_kinds X m two
 
     few_maps : length t.maps ≤ 512
-    few_maps =
-        let a = two.maps in
-        let b = two.counted.maps in
-        let c = two.counted.modules in
-        let d = vt.limits.modules in
-        omega arith
+    few_maps = omega (arith, two.maps, two.counted.maps, two.counted.modules, vt.limits.modules)
 
     names_same : kind_to A l m W X 0 ≡ each_words name_words u.names
     unfolding kind_to base_of together merged

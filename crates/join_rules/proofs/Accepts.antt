@@ -9,7 +9,7 @@ use borrow.Author.Tests.{le-leb, lt-ltb, lt-leb, eq-eqb, ne_eqb, eqb-true, eqb-f
 use lib.Dec.{eqb, leb, ltb}
 use lib.ListN.{length, get_or, take, length-append}
 use lib.Seq.{get_or-take}
-use Rattle.snapshot.specs.Lists.{any, all}
+use Rattle.snapshot.specs.Lists.{any}
 use Rattle.snapshot.specs.Limits.{word_limit, definition_limit}
 use Rattle.snapshot.specs.Sizes.{definition_size, scope_size, import_size, extern_size}
 use Rattle.snapshot.specs.Records.{Definition, Scope, Import, Extern, Member, Snapshot}

@@ -5,16 +5,15 @@ use mathlib.Core.List.{List, [], ◌∷◌, ◌++◌, map}
 use mathlib.Core.Bool.{Bool, true, false, false≢true}
 use native.Mathlib.Omega.{arith}
 use native.Mathlib.Nat.{add-zero, zero-add}
-use borrow.Author.Tests.{ltb-true, ltb-false, not-true, not-false, eqb-true, eq-eqb}
-use lib.Dec.{eqb, ltb}
-use lib.ListN.{length, get_or, take, length-append, get_or-append}
+use borrow.Author.Tests.{ltb-true, ltb-false, not-true, not-false, eq-eqb}
+use lib.Dec.{ltb}
+use lib.ListN.{length, get_or, take, length-append, get_or-append, length-map}
 use lib.Seq.{get_or-append-add}
 use Rattle.snapshot.specs.Lists.{any, eq_list}
 use Rattle.snapshot.specs.Records.{Name}
 use Rattle.check_rules.specs.Tests.{same_name}
-use Rattle.accept.specs.Valid.{Each, none, more}
 use Rattle.accept.proofs.Accepted.{by_test}
-use Rattle.accept.proofs.Bools.{and_two, or_right, any_none}
+use Rattle.accept.proofs.Bools.{or_right, any_none}
 use Rattle.hir_def.specs.Finds.{place_of, select}
 use Rattle.find_path_spec.proofs.laws.Walks.{select_hit, select_miss}
 use Rattle.join_rules.specs.Joined.{is_new, merged, merged_number}
@@ -28,24 +27,15 @@ by_part xs ys i l f g =
     by_test (ltb i (length xs)) (λ a. f (ltb-true i (length xs) a))
     (λ a. let b = ltb-false i (length xs) a in g (i - length xs) (omega arith) (omega arith))
 
-pub map_length : {A B : Type 0} (f : A → B) (ys : List A) → length (map f ys) ≡ length ys
-map_length f [] = refl
-map_length f (y ∷ ys) = ap suc (map_length f ys)
-
 pub map_at_lem : {A B : Type 0} (f : A → B) (d : A) (e : B) (ys : List A) (j : ℕ) → j < length ys → get_or (map f ys) j e ≡ f (get_or ys j d)
 map_at_lem f d e [] j l = absurd (omega arith)
 map_at_lem f d e (y ∷ ys) zero l = refl
 map_at_lem f d e (y ∷ ys) (suc j) l = map_at_lem f d e ys j (omega arith)
 
-pub each_mapped : {A B : Type 0} {P : A → Type 0} {Q : B → Type 0} (f : A → B) {ys : List A} → ((y : A) → P y → Q (f y)) → Each P ys
-    → Each Q (map f ys)
-each_mapped f h none = none
-each_mapped f h (more {x = y} p ps) = more (h y p) (each_mapped f h ps)
-
 -- the first list, and the second with its elements changed
 module _ {A : Type 0} (f : A → A) (d : A) (xs ys : List A) where
   pub both_length : length (xs ++ map f ys) ≡ length xs + length ys
-  both_length = length-append xs (map f ys) ∙ ap (λ n. length xs + n) (map_length f ys)
+  both_length = length-append xs (map f ys) ∙ ap (λ n. length xs + n) (length-map ys f)
 
   pub both_low : (i : ℕ) → i < length xs → get_or (xs ++ map f ys) i d ≡ get_or xs i d
   both_low i l = get_or-append xs (map f ys) d i l
@@ -54,7 +44,7 @@ module _ {A : Type 0} (f : A → A) (d : A) (xs ys : List A) where
   both_high j l = get_or-append-add xs (map f ys) j d ∙ map_at_lem f d d ys j l
 
   pub by_both : {C : Type 0} (i : ℕ) → i < length (xs ++ map f ys) → (i < length xs → C) → ((j : ℕ) → i ≡ length xs + j → j < length ys → C) → C
-  by_both i l g h = by_part xs (map f ys) i l g (λ j e k. h j e (let n = map_length f ys in omega arith))
+  by_both i l g h = by_part xs (map f ys) i l g (λ j e k. h j e (let n = length-map ys f in omega arith))
 
 -- the elements that pass a test
 
@@ -206,21 +196,7 @@ module _ {A : Type 0} (same : A → A → Bool) (d : A) (xs ys : List A) where
 
 -- names with one text are one record
 
-eqlist_same : (xs ys : List ℕ) → eq_list xs ys ≡ true → xs ≡ ys
-unfolding eq_list
-eqlist_same [] [] e = refl
-eqlist_same [] (y ∷ ys) e = absurd (false≢true e)
-eqlist_same (x ∷ xs) [] e = absurd (false≢true e)
-eqlist_same (x ∷ xs) (y ∷ ys) e =
-    let p = and_two (eqb x y) (eq_list xs ys) e in
-    ap₂ (λ a b. a ∷ b) (eqb-true x y p.0) (eqlist_same xs ys p.1)
-
-pub name_equal : (x y : Name) → same_name x y ≡ true → x ≡ y
-name_equal x y e =
-    let p = and_two (eqb x.bytes y.bytes) (eq_list x.text y.text) e in
-    let a = eqb-true x.bytes y.bytes p.0 in
-    let b = eqlist_same x.text y.text p.1 in
-    λ i. record { bytes = a i; text = b i }
+-- names with one text are one record
 
 eqlist_refl : (xs : List ℕ) → eq_list xs xs ≡ true
 unfolding eq_list

@@ -11,6 +11,7 @@ use Rattle.snapshot.specs.Records.{Map, Module, Child, Prelude, Definition, Scop
 use Rattle.check_rules.specs.Tests.{counts_of, no_name, no_map, no_module, no_definition, same_name, same_child, same_prelude, same_entry}
 use Rattle.check_rules.specs.Tests.{same_extern}
 use Rattle.check_rules.specs.Tests.{is_builtin}
+use Rattle.check_rules.proofs.Names.{name_equal}
 use Rattle.accept.specs.Valid.{Each, Valid, Ranges, Limits, Tree, Owned, Distinct, DefinedOnce, Enums, Under, MacroOnly, Belongs, NameFits, CrateFits}
 use Rattle.accept.specs.Valid.{DependencyFits, MapFits, ModuleFits, ChildFits, PreludeFits, DefinitionFits, ScopeFits, ImportFits, ExternFits}
 use Rattle.accept.specs.Valid.{MemberFits, map_in, parent_in, block_in, crate_in, definition_in}
@@ -18,13 +19,13 @@ use Rattle.accept.proofs.Accepted.{by_test}
 use Rattle.accept.proofs.Bools.{and_three, each_at, each_map}
 use Rattle.hir_def.specs.Finds.{select}
 use Rattle.hir_def.proofs.Found.{each_select}
-use Rattle.find_path_spec.proofs.laws.Crates.{each_append}
+use Rattle.hir_def.proofs.Every.{each_append, each_mapped}
 use Rattle.join_rules.specs.Joined.{is_new, merged, merged_number, name_number, same_builtin, definition_number, Numbers, second_numbers, or_none}
 use Rattle.join_rules.specs.Joined.{dependency_to, map_to, module_to, child_to, prelude_to, definition_to, first_to, second_to, visible_to, scope_to}
 use Rattle.join_rules.specs.Joined.{import_to, extern_to, member_to, together}
 use Rattle.join_rules.proofs.Lists.{any_not}
-use Rattle.join_rules.proofs.Merged.{each_mapped, both_length, both_low, both_high, by_both, kept_at, kept_less, From, from, from_less}
-use Rattle.join_rules.proofs.Merged.{number_new, number_old, new_apart, merged_length, merged_low, merged_high, name_equal, name_refl}
+use Rattle.join_rules.proofs.Merged.{both_length, both_low, both_high, by_both, kept_at, kept_less, From, from, from_less}
+use Rattle.join_rules.proofs.Merged.{number_new, number_old, new_apart, merged_length, merged_low, merged_high, name_refl}
 use Rattle.join_rules.proofs.Stages.{DefinitionWhole, Whole}
 use Rattle.edit_rules.proofs.scope_edits.Lists.{each_two, each_both}
 

@@ -1,6 +1,6 @@
 -- A valid snapshot, written out: the check takes its records, kind after kind.
 use Prim.Native.Nat.{ℕ, zero, suc, ◌+◌, ◌-◌, ◌≤◌, ◌<◌}
-use mathlib.Core.Path.{◌≡◌, refl, sym, ◌∙◌, ap, ap₂, subst}
+use mathlib.Core.Path.{◌≡◌, sym, ◌∙◌, ap, ap₂, subst}
 use mathlib.Core.List.{List, [], ◌∷◌, ◌++◌, append_assoc, append-nil}
 use mathlib.Core.Bool.{true, false}
 use native.Mathlib.Omega.{arith}
@@ -20,6 +20,7 @@ use Rattle.check_rules.specs.Steps.{add_map, add_module}
 use Rattle.accept.specs.Valid.{Each, none, more, Valid, map_in, parent_in, block_in, crate_in}
 use Rattle.accept.proofs.Accepted.{by_test}
 use Rattle.accept.proofs.Bools.{each_at}
+use Rattle.hir_def.proofs.Laws.{by_number}
 use Rattle.edit_rules.specs.Written.{name_words, crate_words, dependency_words, map_words, module_words, child_words, prelude_words, each_words}
 use Rattle.edit_rules.specs.Written.{tree_words}
 use Rattle.edit_rules.proofs.scope_edits.Written.{tree_map, tree_module}
@@ -72,10 +73,6 @@ edition_small e h =
 each_of : {A : Type 0} {P : A → Type 0} (d : A) (zs : List A) → ((j : ℕ) → j < length zs → P (get_or zs j d)) → Each P zs
 each_of d [] h = none
 each_of d (z ∷ zs) h = more (h 0 (omega arith)) (each_of d zs (λ j l. h (suc j) (omega arith)))
-
-by_none : {C : Type 0} (n : ℕ) → (n ≡ 0 → C) → ((m : ℕ) → n ≡ suc m → C) → C
-by_none zero f g = f refl
-by_none (suc n) f g = g n refl
 
 abbrev no_crate : Crate
 no_crate = record { origin = 0; no_std = 0; edition = 0 }
@@ -157,7 +154,7 @@ module _ (X : List ℕ) (u : Snapshot) (v : Valid u) (w : Whole u) where
       let ix : length (take i xs) ≡ i = length-take-le i xs h.modules in
       let a : ltb x.map (length (take k ms)) ≡ true = lt-ltb x.map (length (take k ms)) (omega arith) in
       let b : eqb (x.map + 1) (length (take k ms)) ≡ true = eq-eqb (x.map + 1) (length (take k ms)) (omega arith) in
-      by_none x.parent
+      by_number x.parent
       (λ z.
       let c : any (is_in x.map) (take i xs) ≡ false =
       before_any no_module xs i l (is_in x.map) (λ j q. ne_eqb (map_in xs j) x.map (λ r. v.tree.roots i j l z q r)) in
@@ -186,7 +183,7 @@ module _ (X : List ℕ) (u : Snapshot) (v : Valid u) (w : Whole u) where
       let fits = each_at no_map k v.ranges.maps l in
       let ix : length (take i xs) ≡ i = length-take-le i xs h.modules in
       let a : ltb x.crate (length u.crates) ≡ true = lt-ltb x.crate (length u.crates) fits.crate in
-      by_none x.block
+      by_number x.block
       (λ z.
       let y : eqb x.block 0 ≡ true = eq-eqb x.block 0 z in
       let c : any (is_own x.crate) (take k ms) ≡ false =
@@ -196,7 +193,7 @@ module _ (X : List ℕ) (u : Snapshot) (v : Valid u) (w : Whole u) where
       (λ b z.
       let q = v.tree.blocks k b l z in
       let q1 = q.1 in
-      let r : b < i = by_test (leb i b) (λ t. let o = late b (leb_is i b t) q.0 in absurd (omega arith)) (λ t. leb_not i b t) in
+      let r : b < i = by_test (leb i b) (λ t. let o = late b (leb-true i b t) q.0 in absurd (omega arith)) (λ t. leb-false i b t) in
       let t : get_or (take i xs) b no_module ≡ get_or xs b no_module = get_or-take i xs b no_module r in
       let n : map_in (take i xs) b ≡ map_in xs b = ap (λ (y : Module). y.map) t in
       let m : get_or (take k ms) (map_in xs b) no_map ≡ get_or ms (map_in xs b) no_map = get_or-take k ms (map_in xs b) no_map q1 in
@@ -208,12 +205,6 @@ module _ (X : List ℕ) (u : Snapshot) (v : Valid u) (w : Whole u) where
       let f : leb x.block (length (take i xs)) ≡ true = le-leb x.block (length (take i xs)) (omega arith) in
       (rw (a, f), rw y, rw (y, g), omega arith))
     where
-      leb_is : (a b : ℕ) → leb a b ≡ true → a ≤ b
-      leb_is a b t = leb-true a b t
-
-      leb_not : (a b : ℕ) → leb a b ≡ false → b < a
-      leb_not a b t = leb-false a b t
-
       unowned : (j : ℕ) → j < k → block_in ms k ≡ 0 → is_own (crate_in ms k) (get_or ms j no_map) ≡ false
       unowned j q z =
           by_test (eqb (crate_in ms j) (crate_in ms k))
@@ -229,7 +220,7 @@ module _ (X : List ℕ) (u : Snapshot) (v : Valid u) (w : Whole u) where
 
   map_low : (m : ℕ) → m < length xs → map_in xs m ≤ m
   map_low zero l =
-      by_none (map_in xs 0) (λ z. omega arith)
+      by_number (map_in xs 0) (λ z. omega arith)
       (λ j z.
       let k = v.tree.known 0 l in
       let f = v.filled 0 (omega arith) in

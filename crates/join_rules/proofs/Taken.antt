@@ -84,8 +84,7 @@ crate_goes s x {X} {p} at o m l a b e =
     let g : (x.origin + 8 * x.no_std) / 8 ≡ x.no_std = omega arith in
     let u = ap (λ j. j % 8) n ∙ f in
     let v = ap (λ j. j / 8) n ∙ g in
-    let y = at.same 1 (omega arith) in
-    let r : crate_at X p ≡ x = λ i. record { origin = u i; no_std = v i; edition = y i } in
+    let r : crate_at X p ≡ x = λ i. record { origin = u i; no_std = v i; edition = at.same 1 (omega arith) i } in
     let q : crate_step s x ≡ on (add_crate s x) = rw (crate_step, a, b, e) in
     record_goes 2 (x.origin + 8 * x.no_std) at w 2 s (add_crate s x) (more l none) (λ n h. follows_up 2 n refl refl refl h) refl
     (ap (crate_step s) r ∙ q)
@@ -97,9 +96,7 @@ pub dependency_goes : (s : Snapshot) (x : Dependency) {X : List ℕ} {p : ℕ} �
 unfolding record_step dependency_step arguments_of
 dependency_goes s x {X} {p} at l h1 h2 a b =
     let n = pay_is 3 x.owner at l in
-    let f1 = at.same 1 (omega arith) in
-    let f2 = at.same 2 (omega arith) in
-    let r : dependency_at X p ≡ x = λ i. record { owner = n i; crate = f1 i; sysroot = f2 i } in
+    let r : dependency_at X p ≡ x = λ i. record { owner = n i; crate = at.same 1 (omega arith) i; sysroot = at.same 2 (omega arith) i } in
     let q : dependency_step s x ≡ on (add_dependency s x) = rw (dependency_step, a, b) in
     record_goes 3 x.owner at l 3 s (add_dependency s x) (more h1 (more h2 none)) (λ n h. follows_up 3 n refl refl refl h) refl
     (ap (dependency_step s) r ∙ q)
@@ -110,9 +107,7 @@ pub map_goes : (s : Snapshot) (x : Map) {X : List ℕ} {p : ℕ} → At X p (map
 unfolding record_step map_step arguments_of
 map_goes s x {X} {p} at l h1 h2 a b c d =
     let n = pay_is 4 x.crate at l in
-    let f1 = at.same 1 (omega arith) in
-    let f2 = at.same 2 (omega arith) in
-    let r : map_at X p ≡ x = λ i. record { crate = n i; block = f1 i; no_std = f2 i } in
+    let r : map_at X p ≡ x = λ i. record { crate = n i; block = at.same 1 (omega arith) i; no_std = at.same 2 (omega arith) i } in
     let q : map_step s x ≡ on (add_map s x) = rw (map_step, a, b, c, d) in
     record_goes 4 x.crate at l 5 s (add_map s x) (more h1 (more h2 none)) (follows_map) refl (ap (map_step s) r ∙ q)
 
@@ -122,8 +117,7 @@ pub module_goes : (s : Snapshot) (x : Module) {X : List ℕ} {p : ℕ} → At X 
 unfolding record_step module_step arguments_of
 module_goes s x {X} {p} at l h1 b d e =
     let n = pay_is 5 x.map at l in
-    let f1 = at.same 1 (omega arith) in
-    let r : module_at X p ≡ x = λ i. record { map = n i; parent = f1 i } in
+    let r : module_at X p ≡ x = λ i. record { map = n i; parent = at.same 1 (omega arith) i } in
     let q : module_step s x ≡ on (add_module s x) = rw (module_step, b, d, e) in
     record_goes 5 x.map at l 5 s (add_module s x) (more h1 none) (λ n h. follows_up 5 n refl refl refl h) refl (ap (module_step s) r ∙ q)
 
@@ -133,8 +127,7 @@ pub child_goes : (s : Snapshot) (x : Child) {X : List ℕ} {p : ℕ} → At X p 
 unfolding record_step child_step arguments_of
 child_goes s x {X} {p} at l h1 b c d =
     let n = pay_is 6 x.owner at l in
-    let f1 = at.same 1 (omega arith) in
-    let r : child_at X p ≡ x = λ i. record { owner = n i; child = f1 i } in
+    let r : child_at X p ≡ x = λ i. record { owner = n i; child = at.same 1 (omega arith) i } in
     let q : child_step s x ≡ on (add_child s x) = rw (child_step, b, c, d) in
     record_goes 6 x.owner at l 6 s (add_child s x) (more h1 none) (λ n h. follows_up 6 n refl refl refl h) refl (ap (child_step s) r ∙ q)
 
@@ -144,8 +137,7 @@ pub prelude_goes : (s : Snapshot) (x : Prelude) {X : List ℕ} {p : ℕ} → At 
 unfolding record_step prelude_step arguments_of
 prelude_goes s x {X} {p} at l h1 b c =
     let n = pay_is 7 x.map at l in
-    let f1 = at.same 1 (omega arith) in
-    let r : prelude_at X p ≡ x = λ i. record { map = n i; target = f1 i } in
+    let r : prelude_at X p ≡ x = λ i. record { map = n i; target = at.same 1 (omega arith) i } in
     let q : prelude_step s x ≡ on (add_prelude s x) = rw (prelude_step, b, c) in
     record_goes 7 x.map at l 7 s (add_prelude s x) (more h1 none) (λ n h. follows_up 7 n refl refl refl h) refl (ap (prelude_step s) r ∙ q)
 
@@ -171,23 +163,16 @@ pub scope_goes : (s : Snapshot) (x : Scope) {X : List ℕ} {p : ℕ} → At X p 
 unfolding record_step scope_step arguments_of scope_words
 scope_goes s x {X} {p} at g l h1 h2 h3 h4 h5 h6 h7 a b c d =
     let n = pay_is 9 x.owner at l in
-    let f1 = at.same 1 (omega arith) in
-    let f2 = at.same 2 (omega arith) in
-    let f3 = at.same 3 (omega arith) in
-    let f4 = at.same 4 (omega arith) in
-    let f5 = at.same 5 (omega arith) in
-    let f6 = at.same 6 (omega arith) in
-    let f7 = at.same 7 (omega arith) in
     let r : scope_at X p ≡ x = λ i. record {
       owner = n i;
-      ns = f1 i;
-      name = f2 i;
-      definition = f3 i;
-      visibility = f4 i;
+      ns = at.same 1 (omega arith) i;
+      name = at.same 2 (omega arith) i;
+      definition = at.same 3 (omega arith) i;
+      visibility = at.same 4 (omega arith) i;
       number =
-          f5 i;
-      declared = f6 i;
-      bits = f7 i;
+          at.same 5 (omega arith) i;
+      declared = at.same 6 (omega arith) i;
+      bits = at.same 7 (omega arith) i;
       place = sym g i;
     } in
     let q : scope_step s x ≡ on (add_scope s x) = rw (scope_step, a, b, c, d) in
@@ -201,19 +186,14 @@ pub import_goes : (s : Snapshot) (x : Import) {X : List ℕ} {p : ℕ} → At X 
 unfolding record_step import_step arguments_of
 import_goes s x {X} {p} at g l h1 h2 h3 h4 h5 a b d =
     let n = pay_is 10 x.owner at l in
-    let f1 = at.same 1 (omega arith) in
-    let f2 = at.same 2 (omega arith) in
-    let f3 = at.same 3 (omega arith) in
-    let f4 = at.same 4 (omega arith) in
-    let f5 = at.same 5 (omega arith) in
     let r : import_at X p ≡ x = λ i. record {
       owner = n i;
-      ns = f1 i;
-      definition = f2 i;
-      name = f3 i;
-      container = f4 i;
+      ns = at.same 1 (omega arith) i;
+      definition = at.same 2 (omega arith) i;
+      name = at.same 3 (omega arith) i;
+      container = at.same 4 (omega arith) i;
       bits =
-          f5 i;
+          at.same 5 (omega arith) i;
       place = sym g i;
     } in
     let q : import_step s x ≡ on (add_import s x) = rw (import_step, a, b, d) in
@@ -227,9 +207,7 @@ pub extern_goes : (s : Snapshot) (x : Extern) {X : List ℕ} {p : ℕ} → At X 
 unfolding record_step extern_step arguments_of
 extern_goes s x {X} {p} at g l h1 h2 b c =
     let n = pay_is 11 x.owner at l in
-    let f1 = at.same 1 (omega arith) in
-    let f2 = at.same 2 (omega arith) in
-    let r : extern_at X p ≡ x = λ i. record { owner = n i; name = f1 i; target = f2 i; place = sym g i } in
+    let r : extern_at X p ≡ x = λ i. record { owner = n i; name = at.same 1 (omega arith) i; target = at.same 2 (omega arith) i; place = sym g i } in
     let q : extern_step s x ≡ on (add_extern s x) = rw (extern_step, b, c) in
     record_goes 11 x.owner at l 11 s (add_extern s x) (more h1 (more h2 none)) (λ n h. follows_up 11 n refl refl refl h) refl
     (ap (extern_step s) r ∙ q)

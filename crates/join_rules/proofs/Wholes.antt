@@ -25,7 +25,7 @@ use Rattle.check_rules.specs.Steps.{add_import}
 use Rattle.check_rules.specs.Steps.{add_extern, add_member, name_step, crate_step, dependency_step, map_step, module_step, child_step, prelude_step}
 use Rattle.check_rules.specs.Steps.{definition_step, scope_step, import_step, extern_step, member_step}
 use Rattle.check_rules.specs.Verdict.{record_step, accept, records, empty, verdict}
-use Rattle.accept.specs.Valid.{Each, none, more}
+use Rattle.accept.specs.Valid.{Each, none}
 use Rattle.accept.proofs.Accepted.{by_test, verdict_keeps, judge_on, judge_crate_on}
 use Rattle.accept.proofs.Bools.{and_three, and_four, unless_right, or_right, each_map, each_snoc, length_snoc, get_or_old}
 use Rattle.edit_rules.proofs.scope_edits.Lists.{each_two}

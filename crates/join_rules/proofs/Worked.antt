@@ -5,15 +5,11 @@ use mathlib.Core.List.{List, [], ◌∷◌, ◌++◌, map}
 use mathlib.Core.Bool.{Bool, true, false, ◌&&◌}
 use lib.Dec.{eqb, ltb}
 use lib.ListN.{length}
-use Rattle.snapshot.specs.Lists.{rows, any, all, eq_list}
-use Rattle.snapshot.specs.Words.{arguments_of}
+use Rattle.std.specs.Prelude.{⊤}
+use Rattle.snapshot.specs.Lists.{rows, eq_list}
 use Rattle.snapshot.specs.Records.{Snapshot}
-use Rattle.check_rules.specs.Tests.{text_bound, padded}
-use Rattle.check_rules.specs.Steps.{name_step, crate_step, dependency_step, map_step, module_step, child_step, prelude_step, definition_step}
-use Rattle.check_rules.specs.Steps.{scope_step}
-use Rattle.check_rules.specs.Steps.{import_step, extern_step, member_step}
-use Rattle.check_rules.specs.Verdict.{arguments_from, record_step, step_at, finish, records, verdict}
-use Rattle.check_rules.specs.Worked.{worked}
+use Rattle.check_rules.specs.Verdict.{verdict}
+use Rattle.check_rules.specs.Worked.{verdict_on_literals, worked}
 use Rattle.hir_def.specs.Finds.{place_of, select}
 use Rattle.find_path_spec.specs.Line.{snapshot_of}
 use Rattle.find_path_spec.proofs.Worked.{Row, row, row_at, passes, cases, with_dependency, dependency_cases, with_std, std_cases, head, named}
@@ -22,6 +18,12 @@ use Rattle.edit_rules.specs.Written.{each_words, tree_words, snapshot_words}
 use Rattle.edit_rules.specs.Written as written
 use Rattle.join_rules.specs.Joined.{merged, merged_number, name_number, definition_number, Numbers, second_numbers, question_to, together, Joining}
 use Rattle.join_rules.specs.Joined.{refused_by, joined_as, join_in, join_by, join_of}
+
+-- what a row unfolds to compute the join of words that are written out
+unfoldable join_on_literals : ⊤
+unfolding join_of join_by join_in together merged merged_number name_number definition_number snapshot_words written.joined each_words
+    tree_words scope_words place_of select verdict_on_literals
+join_on_literals = tt
 
 -- the words of a work area, both inputs, the words of the target, and what comes of it
 pub record Call : Type 0 where
@@ -127,10 +129,7 @@ pub worked_joins : agrees (record { area = 16384; first = worked; second = worke
     ∷ record { area = 16384; first = 0x20000000 ∷ 2020 ∷ []; second = []; room = 0; joining = refused_by 43 }
     ∷ record { area = 16384; first = worked; second = 0x20000000 ∷ 2020 ∷ []; room = 0; joining = refused_by 43 }
     ∷ []) ≡ true
-unfolding agrees alike twice few every few_every every_few every_twice crates join_of join_by join_in together merged merged_number
-    name_number definition_number snapshot_words written.joined each_words tree_words scope_words place_of select verdict records step_at
-    record_step finish arguments_from arguments_of name_step crate_step dependency_step map_step module_step child_step prelude_step
-    definition_step scope_step import_step extern_step member_step text_bound padded rows any all eq_list
+unfolding agrees alike twice few every few_every every_few every_twice crates join_on_literals
 worked_joins = refl
 
 -- the lines of each part's questions, put with their numbers moved, on the joined words
@@ -154,23 +153,17 @@ join_passes W X first second =
 
 pub worked_twice : join_passes worked worked cases cases
     && passes twice (row 4 0 0 1 0 9 "refused 23 0 0" ∷ row 1 1 4 1 0 9 "refused 23 0 0" ∷ row 2 2 2 1 0 9 "refused 24 0 0" ∷ []) ≡ true
-unfolding join_passes words_by twice passes cases dependency_cases std_cases row_at with_dependency with_std head named snapshot_of join_of
-    join_by join_in together merged merged_number name_number definition_number snapshot_words written.joined each_words tree_words
-    scope_words place_of select verdict records step_at record_step finish arguments_from arguments_of name_step crate_step dependency_step
-    map_step module_step child_step prelude_step definition_step scope_step import_step extern_step member_step text_bound padded rows any all eq_list
+unfolding join_passes words_by twice passes cases dependency_cases std_cases row_at with_dependency with_std head named snapshot_of
+    join_on_literals
 worked_twice = refl
 
 -- names and `u8` are shared
 pub dependency_twice : join_passes with_dependency with_dependency dependency_cases dependency_cases ≡ true
-unfolding join_passes words_by twice passes cases dependency_cases std_cases row_at with_dependency with_std head named snapshot_of join_of
-    join_by join_in together merged merged_number name_number definition_number snapshot_words written.joined each_words tree_words
-    scope_words place_of select verdict records step_at record_step finish arguments_from arguments_of name_step crate_step dependency_step
-    map_step module_step child_step prelude_step definition_step scope_step import_step extern_step member_step text_bound padded rows any all eq_list
+unfolding join_passes words_by twice passes cases dependency_cases std_cases row_at with_dependency with_std head named snapshot_of
+    join_on_literals
 dependency_twice = refl
 
 pub dependency_std : join_passes with_dependency with_std dependency_cases std_cases ≡ true
-unfolding join_passes words_by twice passes cases dependency_cases std_cases row_at with_dependency with_std head named snapshot_of join_of
-    join_by join_in together merged merged_number name_number definition_number snapshot_words written.joined each_words tree_words
-    scope_words place_of select verdict records step_at record_step finish arguments_from arguments_of name_step crate_step dependency_step
-    map_step module_step child_step prelude_step definition_step scope_step import_step extern_step member_step text_bound padded rows any all eq_list
+unfolding join_passes words_by twice passes cases dependency_cases std_cases row_at with_dependency with_std head named snapshot_of
+    join_on_literals
 dependency_std = refl

@@ -3,12 +3,17 @@ use mathlib.Core.Path.{◌≡◌, refl, ap, sym}
 use Prim.Native.Nat.{ℕ, zero, suc, ◌≤◌, ◌<◌}
 use native.Mathlib.Omega.{arith}
 use mathlib.Core.Bool.{Bool, ◌||◌, or-false}
+use Rattle.std.specs.Prelude.{Option, None, Some}
 use lib.Dec.{eqb}
 use Rattle.module_tree.specs.rules.Visibility.{last_or, last_to, last, met_or, met_to, met}
 
 pub by_number : {C : Type 0} (k : ℕ) → (k ≡ 0 → C) → ((p : ℕ) → k ≡ suc p → C) → C
 by_number zero z f = z refl
 by_number (suc p) z f = f p refl
+
+pub by_option : {A C : Type 0} (o : Option A) → (o ≡ None → C) → ((x : A) → o ≡ Some x → C) → C
+by_option None f g = f refl
+by_option (Some x) f g = g x refl
 
 -- Steps go to a smaller number +1, or end, from every number below n.
 abbrev pub Falls : (ℕ → ℕ) → ℕ → Type 0

@@ -1,5 +1,5 @@
 -- Roots and own maps of a valid snapshot are there, and are what their names say.
-use mathlib.Core.Path.{◌≡◌, refl, ◌∙◌}
+use mathlib.Core.Path.{◌≡◌, ◌∙◌}
 use Prim.Native.Nat.{ℕ, zero, suc, ◌+◌, ◌≤◌, ◌<◌}
 use native.Mathlib.Omega.{arith}
 use mathlib.Core.List.{List, [], ◌∷◌}
@@ -13,8 +13,8 @@ use Rattle.accept.specs.Valid.{Valid}
 use Rattle.accept.proofs.Accepted.{by_test}
 use Rattle.accept.proofs.Bools.{and_two, each_at}
 use Rattle.module_tree.specs.rules.Modules.{place_of}
-use Rattle.module_tree.specs.rules.Modules.{module_of, map_of, map_no, crate_of, parent_of, root_of, own_map, crate_root}
-use Rattle.module_tree.proofs.Chains.{root_first, map_known}
+use Rattle.module_tree.specs.rules.Modules.{module_of, map_of, map_no, crate_of, root_of, own_map, crate_root}
+use Rattle.module_tree.proofs.Chains.{map_known}
 
 -- the place of the first that passes, where one does
 record First {A : Type 0} (p : A → Bool) (xs : List A) (d : A) (k m : ℕ) : Type 0 where
@@ -59,13 +59,6 @@ module _ (s : Snapshot) (v : Valid s) where
       let m = v.filled k h in
       let f = root_before k m.0 m.1 m.2 in
       (omega (arith, m.1, f.0), f.1)
-
-  -- a module without a parent is its map's root
-  pub root_is : (m : ℕ) → m < length s.modules → parent_of s m ≡ 0 → root_of s (map_no s m) ≡ m
-  root_is m h z =
-      let f = root_before (map_no s m) m h refl in
-      let l : root_of s (map_no s m) < m → ⊥ = λ l. root_first s v.tree m (root_of s (map_no s m)) h z l f.1 in
-      omega (arith, f.0, l)
 
   -- a crate's own map is of that crate, and of no block
   pub own_known : (c : ℕ) → c < length s.crates → (own_map s c < length s.maps) × ((map_of s (own_map s c)).crate ≡ c)

@@ -1,22 +1,15 @@
 -- Ways of falling steps, as relations without a count of steps.
-use mathlib.Core.Path.{◌≡◌, refl, sym, ◌∙◌, subst}
-use mathlib.Core.Bool.{Bool, true, false, ◌||◌, false≢true}
-use mathlib.Core.Logic.{◌⊎◌, inl, inr, ⊎_elim}
+use mathlib.Core.Path.{◌≡◌, sym, ◌∙◌, subst}
+use mathlib.Core.Bool.{true, false≢true}
+use mathlib.Core.Logic.{⊎_elim}
 use Prim.Native.Nat.{ℕ, zero, suc, ◌<◌}
 use native.Mathlib.Omega.{arith}
 use lib.Dec.{eqb}
 use borrow.Author.Tests.{eqb-true, eq-eqb}
+use Rattle.std.proofs.lemmas.Bool.{or_cases, or_right}
 use Rattle.module_tree.specs.rules.Visibility.{last_or, last, met_or, met}
 use Rattle.module_tree.specs.Differs.{Meets, now, on}
 use Rattle.module_tree.proofs.Laws.{by_number, Falls, last_more, met_more}
-
-or_true : (a b : Bool) → a || b ≡ true → (a ≡ true) ⊎ (b ≡ true)
-or_true true b e = inl refl
-or_true false b e = inr e
-
-or_second : (a b : Bool) → b ≡ true → a || b ≡ true
-or_second true b e = refl
-or_second false b e = e
 
 module _ (step : ℕ → ℕ) (n : ℕ) (falls : Falls step n) where
   pub last_end : (t : ℕ) → t < n → step t ≡ 0 → last step t ≡ t
@@ -34,7 +27,7 @@ module _ (step : ℕ → ℕ) (n : ℕ) (falls : Falls step n) where
       ⊎_elim (λ p. now (eqb-true v t p))
       (λ p. by_number (step v) (λ z. absurd (false≢true (rw z at p)))
       (λ w q. let f = falls v w r q in on q (met_meets' d w t (omega arith) (omega arith) (rw q at p))))
-      (or_true (eqb v t) (met_or (λ w. met step w t) (step v)) (sym (met_more step n falls v t r) ∙ e))
+      (or_cases (eqb v t) (met_or (λ w. met step w t) (step v)) (sym (met_more step n falls v t r) ∙ e))
 
   pub met_meets : (v t : ℕ) → v < n → met step v t ≡ true → Meets step t v
   met_meets v t r e = met_meets' (suc v) v t (omega arith) r e
@@ -45,7 +38,7 @@ module _ (step : ℕ → ℕ) (n : ℕ) (falls : Falls step n) where
   meets_met' t v r (on {w = w} q m) =
       let f = falls v w r q in
       met_more step n falls v t r
-      ∙ or_second (eqb v t) (met_or (λ w. met step w t) (step v)) (rw q (meets_met' t w (omega arith) m))
+      ∙ or_right (eqb v t) (met_or (λ w. met step w t) (step v)) (rw q (meets_met' t w (omega arith) m))
 
   pub meets_met : (v t : ℕ) → v < n → Meets step t v → met step v t ≡ true
   meets_met v t = meets_met' t v

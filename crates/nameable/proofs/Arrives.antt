@@ -1,43 +1,31 @@
 -- A path to the item with at most k names is found where there is one, but for those through an enum.
 use Prim.Native.Nat.{ℕ, zero, suc, ◌+◌, ◌≤◌, ◌<◌}
-use mathlib.Core.Path.{◌≡◌, refl, sym, ap, ap₂, ◌∙◌}
+use mathlib.Core.Path.{◌≡◌, refl, sym, ap, ◌∙◌}
 use mathlib.Core.List.Memᴰ
 use mathlib.Core.List.{List, [], ◌∷◌, ◌++◌, Memᴰ}
 use mathlib.Core.Bool.{Bool, true, false, or-true, true≢false}
 use Rattle.std.specs.Prelude.{Option, None, Some}
 use mathlib.Core.Logic.{◌⊎◌, inl, inr, ⊎_elim}
 use native.Mathlib.Omega.{arith}
-use borrow.Author.Tests.{eqb-true, eq-eqb, leb-true, leb-false}
-use lib.Dec.{eqb, leb}
+use borrow.Author.Tests.{eq-eqb, leb-true, leb-false}
+use lib.Dec.{leb}
 use lib.ListN.{length}
 use Rattle.snapshot.specs.Records.{Snapshot}
 use Rattle.accept.proofs.Accepted.{by_test}
-use Rattle.accept.proofs.Bools.{and_two}
+use Rattle.module_tree.proofs.Laws.{by_option}
 use Rattle.hir_def.specs.Finds.{or_first}
-use Rattle.hir_def.specs.Items.{types, ns_of, same_item, module_item, defined_item}
+use Rattle.hir_def.specs.Items.{types, ns_of, module_item}
 use Rattle.hir_def.specs.declared.Item.{Item}
 use Rattle.hir_def.specs.declared.Item.TheVariants.{Mod, Def}
+use Rattle.hir_def.proofs.Same.{same_item_lem, same_self}
+use Rattle.hir_def.proofs.Every.{each_append, each_in}
 use Rattle.nameable.specs.Paths.{Keyword, reads, Path, keyword, absolute, plain, into, names_in, is_plain, named, within, item_in, means, Names}
 use Rattle.nameable.specs.Breadth.{Way, is_met, with_meaning, added, nameless, single, onward, reached, is_item, first_to, arrives, arrival}
 use Rattle.nameable.specs.Queue.{passing}
-use Rattle.nameable.proofs.Lists.{by_option, none_some, first_found_lem, first_some_lem, map_in_lem, passing_few, passing_more, passing_less}
-use Rattle.nameable.proofs.Reached.{each_append, each_in, way_to, met_snoc, with_old, with_new, added_keeps, Near, near_more, nameless_near}
+use Rattle.nameable.proofs.Lists.{none_some, first_found_lem, first_some_lem, map_in_lem, passing_few, passing_more, passing_less}
+use Rattle.nameable.proofs.Reached.{way_to, met_snoc, with_old, with_new, added_keeps, Near, near_more, nameless_near}
 use Rattle.nameable.proofs.Reached.{single_near, onward_near, reached_good, into_means, onward_means, absolute_in, plain_in_lem, Plenty}
 use Rattle.nameable.proofs.Reached.{reached_meets}
-
-pub same_item_lem : (a b : Item) → same_item a b ≡ true → a ≡ b
-unfolding same_item
-same_item_lem (Mod m) (Mod n) e = ap module_item (eqb-true m.0 n.0 e)
-same_item_lem (Mod m) (Def ns d) e = absurd (true≢false (sym e))
-same_item_lem (Def ns d) (Mod n) e = absurd (true≢false (sym e))
-same_item_lem (Def ns d) (Def ns' d') e =
-    let f = and_two (eqb ns.0 ns'.0) (eqb d.0 d'.0) e in
-    ap₂ defined_item (eqb-true ns.0 ns'.0 f.0) (eqb-true d.0 d'.0 f.1)
-
-pub item_same : (a : Item) → same_item a a ≡ true
-unfolding same_item
-item_same (Mod m) = eq-eqb m.0 m.0 refl
-item_same (Def ns d) = rw (eq-eqb ns.0 ns.0 refl) (eq-eqb d.0 d.0 refl)
 
 pub is_item_lem : (x : Item) (o : Option Item) → is_item x o ≡ true → o ≡ Some x
 unfolding is_item
@@ -46,7 +34,7 @@ is_item_lem x (Some y) e = ap Some (same_item_lem y x e)
 
 pub item_is : (x : Item) (o : Option Item) → o ≡ Some x → is_item x o ≡ true
 unfolding is_item
-item_is x o e = rw e (item_same x)
+item_is x o e = rw e (same_self x)
 
 pub or_first_none : {A : Type 0} (a b : Option A) → a ≡ None → or_first a b ≡ b
 unfolding or_first

@@ -14,13 +14,14 @@ use Rattle.accept.proofs.Accepted.{by_test}
 use Rattle.hir_def.specs.Items.{types, variant_kind, definition_of, ns_of, module_item, defined_item}
 use Rattle.hir_def.specs.declared.Item.{Item}
 use Rattle.hir_def.specs.declared.Item.TheVariants.{Mod, Def}
+use Rattle.hir_def.proofs.Every.{each_in}
 use Rattle.nameable.specs.Seen.{is_variant}
 use Rattle.nameable.specs.Paths.{Path, keyword, absolute, plain, into, names_in, is_plain, Named, named, variants_in, within, item_in, means, Names}
 use Rattle.nameable.specs.Breadth.{arrival, turns, first_to, checked_path, variant_after, by_enum, shorter, shortest_of, shortest, found, longer}
 use Rattle.nameable.specs.Breadth.{names_limit, up_to, any_path}
 use Rattle.nameable.specs.Right.{Right}
 use Rattle.nameable.proofs.Lists.{none_some}
-use Rattle.nameable.proofs.Reached.{each_in, named_in_lem, into_means, into_from, Plenty, variant_named_lem, variants_def}
+use Rattle.nameable.proofs.Reached.{named_in_lem, into_means, into_from, Plenty, variant_named_lem, variants_def}
 use Rattle.nameable.proofs.Arrives.{first_to_lem, to_first, arrives_good, arrives_on, arrives_meets, Flat, never_after}
 
 -- p is right, and as short as any of Q; or there is none of Q

@@ -1,19 +1,15 @@
 -- What is found in a list, and how many numbers pass a test.
 use Prim.Native.Nat.{ℕ, zero, suc, ◌≤◌, ◌<◌}
-use mathlib.Core.Path.{◌≡◌, refl, sym, ap, ◌∙◌}
+use mathlib.Core.Path.{◌≡◌, sym, ap, ◌∙◌}
 use mathlib.Core.List.{List, [], ◌∷◌, map, Memᴰ}
 use mathlib.Core.Bool.{Bool, true, false}
-use Rattle.std.specs.Prelude.{Option, None, Some}
+use Rattle.std.specs.Prelude.{None, Some}
 use native.Mathlib.Omega.{arith}
 use borrow.Author.Tests.{eqb-true, eqb-false}
 use lib.Dec.{eqb}
 use Rattle.accept.proofs.Accepted.{by_test}
 use Rattle.hir_def.specs.Finds.{first_of}
 use Rattle.nameable.specs.Queue.{passing}
-
-pub by_option : {A C : Type 0} (o : Option A) → (o ≡ None → C) → ((x : A) → o ≡ Some x → C) → C
-by_option None f g = f refl
-by_option (Some x) f g = g x refl
 
 pub none_some : {A : Type 0} {x : A} → None ≡ Some x → ⊥
 none_some e = let z : ◌≡◌ {A = ℕ} 0 1 = cc in omega arith

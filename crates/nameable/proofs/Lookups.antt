@@ -2,8 +2,8 @@
 use Rattle.std.specs.Prelude.{option_map}
 use Prim.Native.Nat.{ℕ, suc, ◌<◌}
 use mathlib.Core.Path.{◌≡◌, refl, sym, ap, subst, ◌∙◌}
-use mathlib.Core.List.{List, [], ◌∷◌, map, Memᴰ}
-use mathlib.Core.Bool.{Bool, true, false, ◌&&◌, true≢false}
+use mathlib.Core.List.{List, [], ◌∷◌, map, Memᴰ, map-map}
+use mathlib.Core.Bool.{Bool, true, false, ◌&&◌, true≢false, and-true}
 use Rattle.std.specs.Prelude.{Some}
 use native.Mathlib.Omega.{arith}
 use borrow.Author.Tests.{eqb-true, eq-eqb, ltb-true, ltb-false}
@@ -15,16 +15,16 @@ use Rattle.accept.specs.Valid.{Valid}
 use Rattle.accept.proofs.Accepted.{by_test}
 use Rattle.accept.proofs.Bools.{and_two}
 use Rattle.hir_def.specs.Finds.{first_of, select}
-use Rattle.hir_def.specs.Items.{types, module_kind, definition_of, item_of, same_item, ns_of, module_item}
+use Rattle.hir_def.specs.Items.{types, item_of, same_item, ns_of, module_item}
 use Rattle.hir_def.specs.ItemScope.{is_named, is_for, names_of}
 use Rattle.hir_def.specs.declared.Item.{Item}
+use Rattle.hir_def.proofs.Same.{same_item_lem, ns_of_item}
 use Rattle.nameable.specs.Seen.{seen}
 use Rattle.nameable.specs.Paths.{Path, into, Named, named, is_seen_in, as_named, entries_in, within, item_in, means}
 use Rattle.nameable.specs.Breadth.{Way, is_item, first_to}
 use Rattle.nameable.specs.Queue.{paths_after, seen_named}
 use Rattle.nameable.proofs.Lists.{first_found_lem, first_some_lem}
 use Rattle.nameable.proofs.Reached.{into_means, item_of_lem}
-use Rattle.nameable.proofs.Arrives.{same_item_lem}
 
 -- The first of what is made of the selected ones.
 pub first_mapped : {A B : Type 0} (p : B → Bool) (f : A → B) (q : A → Bool) (xs : List A)
@@ -48,10 +48,6 @@ first_same p q (x ∷ xs) h =
     by_test (q x)
     (λ t. rw (h x (Memᴰ.head refl), t, first_of))
     (λ t. rw (h x (Memᴰ.head refl), t, first_of) ih)
-
-pub map_of_map : {A B C : Type 0} (f : A → B) (g : B → C) (xs : List A) → map g (map f xs) ≡ map (λ x. g (f x)) xs
-map_of_map f g [] = refl
-map_of_map f g (x ∷ xs) = ap (λ (ys : List _). g (f x) ∷ ys) (map_of_map f g xs)
 
 -- where an element stands
 pub place_in : {A : Type 0} (d : A) {x : A} {xs : List A} → Memᴰ x xs → (i : ℕ) × (i < length xs) × (get_or xs i d ≡ x)
@@ -130,14 +126,6 @@ module _ (s : Snapshot) (from ns m : ℕ) where
       → item_in (named e.name (entries_in s from ns m)) ≡ Some (item_of s e.ns e.definition)
   seen_means ok e i h = item_of_lem (named e.name (entries_in s from ns m)) (as_named s e) (seen_named_lem ok e i h)
 
--- the namespace of an item that a record stands for
-pub ns_of_item : (s : Snapshot) (ns d : ℕ) → ns_of (item_of s ns d) ≡ ns
-unfolding item_of ns_of
-ns_of_item s ns d =
-    by_test (eqb ns types && eqb (definition_of s d).kind module_kind)
-    (λ t. rw (t, item_of) (sym (eqb-true ns types (and_two (eqb ns types) (eqb (definition_of s d).kind module_kind) t).0)))
-    (λ t. rw (t, item_of))
-
 module _ (s : Snapshot) (ok : Valid s) (from : ℕ) (item : Item) (w : Way) (there : means s from types w.path ≡ Some (module_item w.target)) where
   -- one name more after a way, by a seen entry
   pub after_means : (ns : ℕ) (e : Scope) → Memᴰ e s.scopes → is_seen_in s from ns w.target e ≡ true
@@ -155,13 +143,9 @@ module _ (s : Snapshot) (ok : Valid s) (from : ℕ) (item : Item) (w : Way) (the
       (λ t.
       let f = and_two (eqb e.owner w.target) (eqb e.ns (ns_of item) && seen s from e) t in
       let g = and_two (eqb e.ns (ns_of item)) (seen s from e) f.1 in
-      rw (t, after_means (ns_of item) e i t, f.0, g.1) (sym (and_true (same_item (item_of s e.ns e.definition) item))))
+      rw (t, after_means (ns_of item) e i t, f.0, g.1) (sym (and-true (same_item (item_of s e.ns e.definition) item))))
       (λ t. rw t (sym (none_for e t)))
     where
-      and_true : (a : Bool) → a && true ≡ a
-      and_true true = refl
-      and_true false = refl
-
       none_for : (e : Scope) → is_seen_in s from (ns_of item) w.target e ≡ false
           → (eqb e.owner w.target && same_item (item_of s e.ns e.definition) item) && seen s from e ≡ false
       none_for e t =
@@ -181,7 +165,7 @@ module _ (s : Snapshot) (ok : Valid s) (from : ℕ) (item : Item) (w : Way) (the
   unfolding first_to entries_in names_of
   after_first =
       ap (first_of (λ (p : Path). is_item item (means s from (ns_of item) p)))
-      (map_of_map (as_named s) (λ (x : Named). into w.path x.name) (select (is_seen_in s from (ns_of item) w.target) s.scopes))
+      (map-map (λ (x : Named). into w.path x.name) (as_named s) (select (is_seen_in s from (ns_of item) w.target) s.scopes))
       ∙ (first_mapped (λ (p : Path). is_item item (means s from (ns_of item) p)) (λ (e : Scope). into w.path e.name)
       (is_seen_in s from (ns_of item) w.target) s.scopes
       ∙ ap (option_map (λ (e : Scope). into w.path e.name))

@@ -18,7 +18,7 @@ use Rattle.accept.proofs.Bools.{and_two, each_at}
 use Rattle.module_tree.specs.rules.Modules.{map_no, crate_of, parent_of, crate_root}
 use Rattle.module_tree.specs.Privacy.{StandsIn, inner, outermost, block}
 use Rattle.module_tree.specs.rules.Privately.{module_around}
-use Rattle.module_tree.proofs.Laws.{by_number}
+use Rattle.module_tree.proofs.Laws.{by_number, by_option}
 use Rattle.module_tree.proofs.Chains.{parent_fits, block_fits}
 use Rattle.module_tree.proofs.Roots.{crate_root_known}
 use Rattle.module_tree.proofs.Privately.{around_stands}
@@ -27,12 +27,13 @@ use Rattle.hir_def.specs.Items.{types, macros, module_kind, definition_of, crate
 use Rattle.hir_def.specs.Nameres.{prelude_of}
 use Rattle.hir_def.specs.declared.Item.{Item}
 use Rattle.hir_def.specs.declared.Item.TheVariants.{Mod, Def}
+use Rattle.hir_def.proofs.Every.{each_append, each_in}
 use Rattle.nameable.specs.Paths.{Keyword, supers, crate, Path, keyword, absolute, plain, into, Named, named, is_seen_in, as_named, entries_in}
 use Rattle.nameable.specs.Paths.{is_variant_of, variant_named, variants_in, extern_named, externs_in, absolutes, entries_over, scopes_from}
 use Rattle.nameable.specs.Paths.{prelude_entries, firsts, within, above_or, above, keyword_module, module_named, reads, item_in, means}
 use Rattle.nameable.specs.Breadth.{keywords}
-use Rattle.nameable.proofs.Lists.{by_option, none_some}
-use Rattle.nameable.proofs.Reached.{each_append, each_in, each_made, named_in_lem, item_in_lem, into_from, Plenty}
+use Rattle.nameable.proofs.Lists.{none_some}
+use Rattle.nameable.proofs.Reached.{each_made, named_in_lem, item_in_lem, into_from, Plenty}
 
 pub rows_in : {A : Type 0} (f : ℕ → A) (k n i : ℕ) → i < n → Memᴰ (f (k + i)) (rows f k n)
 unfolding rows

@@ -19,10 +19,10 @@ use Rattle.module_tree.specs.Privacy.{Privacy}
 use Rattle.module_tree.specs.Differs.{Known}
 use Rattle.module_tree.proofs.Privately.{privately_is}
 use Rattle.hir_def.proofs.Found.{each_first}
+use Rattle.hir_def.proofs.Every.{each_in}
 use Rattle.nameable.specs.Seen.{holds, holds_in, is_declaration, declared_ns, declared_as, declared_in, declaration_in, declaration_of}
 use Rattle.nameable.specs.Seen.{declaration_holds, both_hold, counts, seen, Holds, DeclarationHolds, BothHold, Seen}
 use Rattle.nameable.proofs.Lists.{none_some}
-use Rattle.nameable.proofs.Reached.{each_in}
 
 both : {A B : Type 0} (a b : Bool) → (a ≡ true) ↔ A → (b ≡ true) ↔ B → (a && b ≡ true) ↔ (A × B)
 both a b f g = (λ e. let h = and_two a b e in (f.0 h.0, g.0 h.1), λ h. rw (f.1 h.0, g.1 h.1))

@@ -15,11 +15,12 @@ use Rattle.hir_def.specs.Finds.{first_of, or_first}
 use Rattle.hir_def.specs.Items.{types, ns_of, module_item}
 use Rattle.hir_def.specs.declared.Item.{Item}
 use Rattle.hir_def.specs.declared.Item.TheVariants.{Mod, Def}
+use Rattle.hir_def.proofs.Every.{each_in}
 use Rattle.nameable.specs.Paths.{Path, means}
 use Rattle.nameable.specs.Breadth.{Way, is_met, with_meaning, added, nameless, single, onward, reached, first_to, arrives, arrival, turns}
 use Rattle.nameable.specs.Queue.{no_way, paths_after, queue, begun, run, passing}
 use Rattle.nameable.proofs.Lists.{passing_few, passing_less}
-use Rattle.nameable.proofs.Reached.{each_in, way_to, met_snoc, with_old, with_new, added_keeps, added_meets, Plenty}
+use Rattle.nameable.proofs.Reached.{way_to, met_snoc, with_old, with_new, added_keeps, added_meets, Plenty}
 use Rattle.nameable.proofs.Arrives.{settles, still}
 
 module _ (s : Snapshot) (from : ℕ) where

@@ -14,23 +14,16 @@ use Rattle.snapshot.specs.Records.{Snapshot, Member}
 use Rattle.accept.specs.Valid.{Each, more, Belongs}
 use Rattle.accept.proofs.Accepted.{by_test}
 use Rattle.accept.proofs.Bools.{and_two, each_map, each_snoc}
+use Rattle.module_tree.proofs.Laws.{by_option}
 use Rattle.hir_def.specs.Finds.{select}
 use Rattle.hir_def.specs.Items.{types, macros, module_item, defined_item}
 use Rattle.hir_def.specs.declared.Item.{Item}
 use Rattle.hir_def.specs.declared.Item.TheVariants.{Mod, Def}
+use Rattle.hir_def.proofs.Every.{each_append, each_in}
 use Rattle.nameable.specs.Paths.{Keyword, Path, keyword, absolute, plain, into, names_in, is_plain, Named, named, entries_in, is_variant_of}
 use Rattle.nameable.specs.Paths.{variant_named, variants_in, absolutes, firsts, within, after, reads, item_in, means}
 use Rattle.nameable.specs.Breadth.{Way, is_met, with_meaning, added, keywords, nameless, single, onward, reached}
-use Rattle.nameable.proofs.Lists.{by_option, none_some, first_found_lem, map_in_lem}
-
-pub each_append : {A : Type 0} {P : A → Type 0} {xs ys : List A} → Each P xs → Each P ys → Each P (xs ++ ys)
-each_append Each.none h = h
-each_append (more p g) h = more p (each_append g h)
-
-pub each_in : {A : Type 0} {P : A → Type 0} {y : A} {xs : List A} → Each P xs → Memᴰ y xs → P y
-each_in {A = A} {P = P} {y = y} Each.none m = elim m [ ]
-each_in {P = P} (more p h) (Memᴰ.head e) = subst P (sym e) p
-each_in (more p h) (Memᴰ.tail m) = each_in h m
+use Rattle.nameable.proofs.Lists.{none_some, first_found_lem, map_in_lem}
 
 -- every element of a list that is made element by element
 pub each_made : {A B : Type 0} {P : B → Type 0} (f : A → B) (xs : List A) → ((x : A) → P (f x)) → Each P (map f xs)

@@ -2,14 +2,10 @@
 use Prim.Native.Nat.{ℕ, zero, suc, ◌+◌, ◌*◌}
 use mathlib.Core.Path.{◌≡◌, refl}
 use mathlib.Core.List.{List, [], ◌∷◌, ◌++◌, map}
-use Rattle.std.specs.Prelude.{Option, None, Some}
-use Rattle.snapshot.specs.Lists.{rows, any, all, eq_list}
-use Rattle.snapshot.specs.Words.{arguments_of}
-use Rattle.check_rules.specs.Tests.{text_bound, padded}
-use Rattle.check_rules.specs.Steps.{name_step, crate_step, dependency_step, map_step, module_step, child_step, prelude_step, definition_step}
-use Rattle.check_rules.specs.Steps.{scope_step}
-use Rattle.check_rules.specs.Steps.{import_step, extern_step, member_step}
-use Rattle.check_rules.specs.Verdict.{Verdict, refuse, accept, arguments_from, record_step, step_at, finish, records, verdict}
+use Rattle.std.specs.Prelude.{Option, None, Some, ⊤}
+use Rattle.snapshot.specs.Lists.{rows}
+use Rattle.check_rules.specs.Verdict.{Verdict, refuse, accept, verdict}
+use Rattle.check_rules.specs.Worked.{verdict_on_literals}
 use Rattle.module_tree.specs.rules.Modules.{place_of, module_of, map_of, root_of, own_map, crate_root, or_else, containing}
 use Rattle.module_tree.specs.rules.Visibility.{last_or, last_to, last, met_or, met_to, met}
 use Rattle.module_tree.specs.rules.Privately.{of_root, block_step, module_around, privately}
@@ -24,6 +20,16 @@ use Rattle.nameable.specs.Paths.{absolutes, entries_over, scopes_from, prelude_e
 use Rattle.nameable.specs.Paths.{after, reads, item_in, means, place_in, route_of}
 use Rattle.nameable.specs.Breadth.{is_met, with_meaning, added, nameless, single, onward, reached, is_item, first_to, arrives, checked_path}
 use Rattle.nameable.specs.Breadth.{variant_after, by_enum, shorter, shortest_of, shortest, AnyPath, found, longer, nowhere, up_to}
+
+-- what a row unfolds to compute paths on words that are written out
+unfoldable pub paths_on_literals : ⊤
+unfolding up_to shortest shortest_of shorter by_enum variant_after checked_path arrives first_to is_item reached onward single nameless
+    added with_meaning is_met means item_in reads after module_named keyword_module above above_or within firsts prelude_entries scopes_from
+    entries_over absolutes externs_in variants_in entries_in named names_in seen counts both_hold declaration_holds declaration_of
+    declaration_in declared_in declared_as declared_ns holds privately module_around block_step of_root last_or last_to last met_or met_to
+    met steps_or steps_to steps prelude_of first_of select or_first item_of same_item ns_of home_by definition_of crate_data module_of
+    map_of root_of own_map crate_root or_else containing place_of verdict_on_literals
+paths_on_literals = tt
 
 unfoldable pub head : ℕ → ℕ → ℕ
 head kind payload = kind * 0x10000000 + payload
@@ -99,26 +105,12 @@ pub any_paths : answers 16 (verdict (workspace 2021))
     ∷ found (into (into (into (into (keyword crate) 0) 3) 13) 14) ∷ found (into (into (keyword (supers 0)) 13) 14)
     ∷ found (keyword (supers 0)) ∷ found (plain 10) ∷ found (keyword (supers 1)) ∷ nowhere ∷ found (absolute 7)
     ∷ []
-unfolding answers ask head letter entry workspace up_to shortest shortest_of shorter by_enum variant_after checked_path arrives first_to
-    is_item reached onward single nameless added with_meaning is_met means item_in reads after module_named keyword_module above above_or
-    within firsts prelude_entries scopes_from entries_over absolutes externs_in variants_in entries_in named names_in seen counts both_hold
-    declaration_holds declaration_of declaration_in declared_in declared_as declared_ns holds privately module_around block_step of_root
-    last_or last_to last met_or met_to met steps_or steps_to steps prelude_of first_of select or_first item_of same_item ns_of home_by definition_of
-    crate_data module_of map_of root_of own_map crate_root or_else containing place_of verdict records step_at record_step finish arguments_from
-    arguments_of name_step crate_step dependency_step map_step module_step child_step prelude_step definition_step scope_step import_step
-    extern_step member_step text_bound padded rows any all eq_list
+unfolding answers ask head letter entry workspace paths_on_literals
 any_paths = refl
 
 -- The f of h has no entry in types: no module has a path to it.
 pub no_entry : answers 16 (verdict (workspace 2021)) (rows (λ m. ask m (defined_item 0 6)) 0 11) ≡ rows (λ m. nowhere) 0 11
-unfolding answers ask head letter entry workspace up_to shortest shortest_of shorter by_enum variant_after checked_path arrives first_to
-    is_item reached onward single nameless added with_meaning is_met means item_in reads after module_named keyword_module above above_or
-    within firsts prelude_entries scopes_from entries_over absolutes externs_in variants_in entries_in named names_in seen counts both_hold
-    declaration_holds declaration_of declaration_in declared_in declared_as declared_ns holds privately module_around block_step of_root
-    last_or last_to last met_or met_to met steps_or steps_to steps prelude_of first_of select or_first item_of same_item ns_of home_by definition_of
-    crate_data module_of map_of root_of own_map crate_root or_else containing place_of verdict records step_at record_step finish arguments_from
-    arguments_of name_step crate_step dependency_step map_step module_step child_step prelude_step definition_step scope_step import_step
-    extern_step member_step text_bound padded rows any all eq_list
+unfolding answers ask head letter entry workspace paths_on_literals
 no_entry = refl
 
 -- mod p { mod x {} pub use x as y; enum E { V } pub use E::V; pub fn g() {} } mod v { fn o() { use crate::p::g; } }
@@ -138,40 +130,19 @@ private =
 pub private_paths : answers 16 (verdict private)
     (ask 1 (module_item 2) ∷ ask 3 (module_item 2) ∷ ask 1 (defined_item 1 4) ∷ ask 3 (defined_item 1 4) ∷ ask 4 (defined_item 1 5) ∷ [])
     ≡ found (into (keyword (supers 0)) 1) ∷ nowhere ∷ found (into (keyword (supers 0)) 5) ∷ nowhere ∷ found (plain 6) ∷ []
-unfolding answers ask head letter entry private up_to shortest shortest_of shorter by_enum variant_after checked_path arrives first_to
-    is_item reached onward single nameless added with_meaning is_met means item_in reads after module_named keyword_module above above_or
-    within firsts prelude_entries scopes_from entries_over absolutes externs_in variants_in entries_in named names_in seen counts both_hold
-    declaration_holds declaration_of declaration_in declared_in declared_as declared_ns holds privately module_around block_step of_root
-    last_or last_to last met_or met_to met steps_or steps_to steps prelude_of first_of select or_first item_of same_item ns_of home_by definition_of
-    crate_data module_of map_of root_of own_map crate_root or_else containing place_of verdict records step_at record_step finish arguments_from
-    arguments_of name_step crate_step dependency_step map_step module_step child_step prelude_step definition_step scope_step import_step
-    extern_step member_step text_bound padded rows any all eq_list
+unfolding answers ask head letter entry private paths_on_literals
 private_paths = refl
 
 -- In edition 2015 there is no `::d`.
 pub old_edition : answers 16 (verdict (workspace 2015)) (ask 1 (defined_item 1 6) ∷ ask 4 (module_item 5) ∷ [])
     ≡ found (into (into (plain 7) 8) 9) ∷ found (plain 7) ∷ []
-unfolding answers ask head letter entry workspace up_to shortest shortest_of shorter by_enum variant_after checked_path arrives first_to
-    is_item reached onward single nameless added with_meaning is_met means item_in reads after module_named keyword_module above above_or
-    within firsts prelude_entries scopes_from entries_over absolutes externs_in variants_in entries_in named names_in seen counts both_hold
-    declaration_holds declaration_of declaration_in declared_in declared_as declared_ns holds privately module_around block_step of_root
-    last_or last_to last met_or met_to met steps_or steps_to steps prelude_of first_of select or_first item_of same_item ns_of home_by definition_of
-    crate_data module_of map_of root_of own_map crate_root or_else containing place_of verdict records step_at record_step finish arguments_from
-    arguments_of name_step crate_step dependency_step map_step module_step child_step prelude_step definition_step scope_step import_step
-    extern_step member_step text_bound padded rows any all eq_list
+unfolding answers ask head letter entry workspace paths_on_literals
 old_edition = refl
 
 -- The variant of four names, where three are allowed.
 pub too_long : answers 3 (verdict (workspace 2021)) (ask 4 (defined_item 1 13) ∷ ask 4 (defined_item 0 12) ∷ [])
     ≡ longer ∷ found (into (into (into (keyword crate) 0) 3) 13) ∷ []
-unfolding answers ask head letter entry workspace up_to shortest shortest_of shorter by_enum variant_after checked_path arrives first_to
-    is_item reached onward single nameless added with_meaning is_met means item_in reads after module_named keyword_module above above_or
-    within firsts prelude_entries scopes_from entries_over absolutes externs_in variants_in entries_in named names_in seen counts both_hold
-    declaration_holds declaration_of declaration_in declared_in declared_as declared_ns holds privately module_around block_step of_root
-    last_or last_to last met_or met_to met steps_or steps_to steps prelude_of first_of select or_first item_of same_item ns_of home_by definition_of
-    crate_data module_of map_of root_of own_map crate_root or_else containing place_of verdict records step_at record_step finish arguments_from
-    arguments_of name_step crate_step dependency_step map_step module_step child_step prelude_step definition_step scope_step import_step
-    extern_step member_step text_bound padded rows any all eq_list
+unfolding answers ask head letter entry workspace paths_on_literals
 too_long = refl
 
 pub readings : Verdict → List Path → List (Option Item)
@@ -190,14 +161,7 @@ pub block_readings : readings (verdict (workspace 2021))
     ∷ into (keyword (supers 2)) 0
     ∷ [])
     ≡ Some (defined_item 1 6) ∷ Some (defined_item 1 6) ∷ None ∷ None ∷ Some (defined_item 1 13) ∷ None ∷ None ∷ []
-unfolding readings head letter entry workspace up_to shortest shortest_of shorter by_enum variant_after checked_path arrives first_to
-    is_item reached onward single nameless added with_meaning is_met means item_in reads after module_named keyword_module above above_or
-    within firsts prelude_entries scopes_from entries_over absolutes externs_in variants_in entries_in named names_in seen counts both_hold
-    declaration_holds declaration_of declaration_in declared_in declared_as declared_ns holds privately module_around block_step of_root
-    last_or last_to last met_or met_to met steps_or steps_to steps prelude_of first_of select or_first item_of same_item ns_of home_by definition_of
-    crate_data module_of map_of root_of own_map crate_root or_else containing place_of verdict records step_at record_step finish arguments_from
-    arguments_of name_step crate_step dependency_step map_step module_step child_step prelude_step definition_step scope_step import_step
-    extern_step member_step text_bound padded rows any all eq_list
+unfolding readings head letter entry workspace paths_on_literals
 block_readings = refl
 
 pub routes : Verdict → List Path → List (List ℕ)
@@ -206,14 +170,7 @@ routes (accept s) ps = map (route_of s 1 1) ps
 
 -- The records by which `::d::h::f` is read: the extern and two entries.
 pub extern_route : routes (verdict (workspace 2021)) (into (into (absolute 7) 8) 9 ∷ []) ≡ (270 ∷ 214 ∷ 222 ∷ []) ∷ []
-unfolding routes route_of place_in head letter entry workspace up_to shortest shortest_of shorter by_enum variant_after checked_path
-    arrives first_to is_item reached onward single nameless added with_meaning is_met means item_in reads after module_named keyword_module
-    above above_or within firsts prelude_entries scopes_from entries_over absolutes externs_in variants_in entries_in named names_in seen
-    counts both_hold declaration_holds declaration_of declaration_in declared_in declared_as declared_ns holds privately module_around
-    block_step of_root last_or last_to last met_or met_to met steps_or steps_to steps prelude_of first_of select or_first item_of same_item ns_of
-    home_by definition_of crate_data module_of map_of root_of own_map crate_root or_else containing place_of verdict records step_at record_step
-    finish arguments_from arguments_of name_step crate_step dependency_step map_step module_step child_step prelude_step definition_step
-    scope_step import_step extern_step member_step text_bound padded rows any all eq_list
+unfolding routes route_of place_in head letter entry workspace paths_on_literals
 extern_route = refl
 
 unfoldable pub over : (ℕ → List ℕ) → ℕ → ℕ → List ℕ
@@ -238,12 +195,5 @@ pub many_names : answers 16 (verdict nested) (ask 0 (module_item 16) ∷ ask 0 (
     (into (into (into (into (into (into (into (into (into (into (into (into (into (keyword (supers 0)) 0) 0) 0) 0) 0) 0) 0) 0) 0) 0) 0) 0) 0) 0)
     0) 1)
     ∷ []
-unfolding over nested answers ask head letter entry up_to shortest shortest_of shorter by_enum variant_after checked_path arrives first_to
-    is_item reached onward single nameless added with_meaning is_met means item_in reads after module_named keyword_module above above_or
-    within firsts prelude_entries scopes_from entries_over absolutes externs_in variants_in entries_in named names_in seen counts both_hold
-    declaration_holds declaration_of declaration_in declared_in declared_as declared_ns holds privately module_around block_step of_root
-    last_or last_to last met_or met_to met steps_or steps_to steps prelude_of first_of select or_first item_of same_item ns_of home_by definition_of
-    crate_data module_of map_of root_of own_map crate_root or_else containing place_of verdict records step_at record_step finish arguments_from
-    arguments_of name_step crate_step dependency_step map_step module_step child_step prelude_step definition_step scope_step import_step
-    extern_step member_step text_bound padded rows any all eq_list
+unfolding over nested answers ask head letter entry paths_on_literals
 many_names = refl

@@ -2,18 +2,18 @@
 use Prim.Native.Nat.{ℕ, zero, suc, ◌+◌, ◌/◌, ◌≤◌}
 use mathlib.Core.Path.{◌≡◌, refl, sym, ◌∙◌, ap, ap₂}
 use mathlib.Core.List.{List, [], ◌∷◌, map}
-use mathlib.Core.Bool.{true, true≢false}
+use mathlib.Core.Bool.{true}
 use native.Mathlib.Omega.{arith}
-use borrow.Author.Tests.{eqb-true, lt-ltb, le-ltb}
-use lib.Dec.{eqb}
+use borrow.Author.Tests.{lt-ltb, le-ltb}
 use lib.ListN.{length, take}
 use Rattle.accept.specs.Post.{Checked}
-use Rattle.snapshot.specs.Lists.{rows, all, eq_list}
-use Rattle.accept.proofs.Bools.{and_left, and_two}
+use Rattle.snapshot.specs.Lists.{rows, all}
+use Rattle.accept.proofs.Bools.{and_left}
 use Rattle.printing.specs.Input.{words_in}
 use Rattle.find_path_spec.specs.Line.{bytes_of, line_of}
 use Rattle.find_path_spec.proofs.Worked.{Row, passes}
 use Rattle.check_rules.specs.Worked.{worked}
+use Rattle.check_rules.proofs.Names.{eq_lists}
 use Rattle.printer.specs.Printed.{first_from, questions_at, whole_at, question_at, reach_at, refusal_line, line_at, next_at, lines_from, lines_of}
 use Rattle.printer.specs.Printed.{lines_unless, input_fault, printed, Turns, end, turn, ended}
 use Rattle.printer.proofs.Laws.{next_more}
@@ -59,15 +59,6 @@ listing =
     ∷ 0x00 ∷ 0x00 ∷ 0x00 ∷ 0x00 ∷ 0x01 ∷ 0x00 ∷ 0x00 ∷ 0xC0 ∷ 0x01 ∷ 0x00 ∷ 0x00 ∷ 0x00 ∷ 0x00 ∷ 0x00 ∷ 0x00 ∷ 0x00
     ∷ 0x01 ∷ 0x00 ∷ 0x00 ∷ 0x00 ∷ 0x00 ∷ 0x00 ∷ 0x00 ∷ 0x00 ∷ 0x10 ∷ 0x27 ∷ 0x00 ∷ 0x00 ∷ 0x0F ∷ 0x00 ∷ 0x00 ∷ 0x00
     ∷ []
-
-eq_lists : (xs ys : List ℕ) → eq_list xs ys ≡ true → xs ≡ ys
-unfolding eq_list
-eq_lists [] [] e = refl
-eq_lists [] (y ∷ ys) e = absurd (true≢false (sym e))
-eq_lists (x ∷ xs) [] e = absurd (true≢false (sym e))
-eq_lists (x ∷ xs) (y ∷ ys) e =
-    let p = and_two (eqb x y) (eq_list xs ys) e in
-    ap₂ (λ z zs. z ∷ zs) (eqb-true x y p.0) (eq_lists xs ys p.1)
 
 abbrev asked : Row
 asked = record { question = question_at (words_in listing 44) 37; line = "found a::f 1 0" }

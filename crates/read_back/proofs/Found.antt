@@ -1,8 +1,8 @@
 -- What is found in scopes is in range.
 use Prim.Native.Nat.{ℕ}
-use mathlib.Core.Path.{◌≡◌, refl, sym, ◌∙◌}
+use mathlib.Core.Path.{◌≡◌, sym, ◌∙◌}
 use mathlib.Core.List.{List, [], ◌∷◌}
-use Rattle.std.specs.Prelude.{Option, None, Some}
+use Rattle.std.specs.Prelude.{Option, Some}
 use native.Mathlib.Omega.{arith}
 use Rattle.snapshot.specs.Records.{scope_at}
 use Rattle.snapshot.specs.Layouts.{snap_of}
@@ -10,14 +10,11 @@ use Rattle.snapshot.specs.declared.layout.Layout.{Layout}
 use Rattle.check_records.specs.record_rules.Stands.{counts_in}
 use Rattle.accept.specs.Post.{Reads}
 use Rattle.accept.specs.Valid.{ScopeFits}
+use Rattle.module_tree.proofs.Laws.{by_option}
 use Rattle.hir_def.specs.Finds.{first_some}
 use Rattle.hir_def.specs.ItemScope.{get}
 use Rattle.hir_def.proofs.Fits.{get_fits}
 use Rattle.read_back.specs.readings.Reads.{scopes_from, entry_from}
-
-by_option : {B C : Type 0} (o : Option B) → (o ≡ None → C) → ((y : B) → o ≡ Some y → C) → C
-by_option None f g = f refl
-by_option (Some y) f g = g y refl
 
 -- the first answer is one of the answers
 some_first : {X B C : Type 0} (f : X → Option B) (xs : List X) (y : B) → ((x : X) → f x ≡ Some y → C) → first_some f xs ≡ Some y → C

@@ -15,7 +15,7 @@ use Rattle.record_index.specs.Index.{keys_of, heads_of, links_of, count_of, key_
 use Rattle.record_index.specs.declared.chains.Chain.{Chain}
 use Rattle.record_index.specs.declared.chains.Chain.TheVariants.{Modules, Items, Imports}
 use Rattle.record_index.specs.Ranges.{low_at, high_at, Ranged, dependency_owner_at, extern_owner_at}
-use Rattle.record_index.specs.Post.{Emptied, Ranging, Noted, Room, Made, Filled, Built}
+use Rattle.record_index.specs.Post.{Emptied, Ranging, Noted, Made, Filled, Built}
 use Rattle.record_index.proofs.Halving.{by_same, half_same}
 use Rattle.record_index.proofs.Chaining.{chained_stays}
 
@@ -145,7 +145,10 @@ module _ (A : List ℕ) (at c k : ℕ) (known : c < crate_limit) (room : at + 2 
 
   pub noted_some : {w : ℕ} → w ≡ high_at A at c → (w ≡ 0 → ⊥) → Noted A at c k B
   noted_some e n =
-      record { ranging = λ owner crates few its v. ranging_some owner crates few its v (omega (arith, e, n)); below = take-set-le at A end (k + 1) (omega arith) }
+      record {
+        ranging = λ owner crates few its v. ranging_some owner crates few its v (omega (arith, e, n));
+        below = take-set-le at A end (k + 1) (omega arith);
+      }
 
   pub noted_none : {w : ℕ} → w ≡ high_at A at c → w ≡ 0 → Noted A at c k C
   noted_none e z =
@@ -184,12 +187,6 @@ chain_in l h Modules = (omega arith, omega arith, omega arith, omega arith)
 chain_in l h Items = (omega arith, omega arith, omega arith, omega arith)
 chain_in l h Imports = (omega arith, omega arith, omega arith, omega arith)
 
-pub chain_room : (l : Layout) → word_count l ≤ word_limit → (c : Chain) (words : ℕ) → table_words ≤ words
-    → Room (heads_of c) (keys_of c) (links_of l c) (count_of l c) words
-chain_room l h c words room =
-    let p = chain_in l h c in
-    record { from = omega (arith, p.0); apart = omega (arith, p.1, p.2); fits = omega (arith, p.3); few = omega (arith, p.2, p.3); small = omega (arith, p.3) }
-
 -- the keys of accepted records are keys of their chain
 pub keys_known : (W : List ℕ) (l : Layout) → Sized W l → (c : Chain) (k : ℕ) → k < count_of l c → key_of W l c k < keys_of c
 keys_known W l z Modules k h = omega (arith, z.owners k h, z.few)
@@ -211,9 +208,10 @@ module _ (W A₀ : List ℕ) (l : Layout) (z : Sized W l) {A B C D E : List ℕ}
     built_chains : (k : Chain) → Chains W l E k
     built_chains Modules =
         chained_stays (key_of W l Modules) _ _ _ _ A E
-        (λ i p q. late i (omega arith) ∙ c.beside.others i (λ s t. omega arith) (λ s t. omega arith) ∙ b.beside.others i (λ s t. omega arith) (λ s t. omega arith))
-        (λ i p q. late i (omega (arith, z.short)) ∙ c.beside.others i (λ s t. omega arith) (λ s t. omega arith) ∙ b.beside.others i (λ s t. omega arith) (λ s t. omega arith))
-        a.chained
+        (λ i p q. late i (omega arith) ∙ c.beside.others i (λ s t. omega arith) (λ s t. omega arith)
+        ∙ b.beside.others i (λ s t. omega arith) (λ s t. omega arith))
+        (λ i p q. late i (omega (arith, z.short)) ∙ c.beside.others i (λ s t. omega arith) (λ s t. omega arith)
+        ∙ b.beside.others i (λ s t. omega arith) (λ s t. omega arith)) a.chained
     built_chains Items =
         chained_stays (key_of W l Items) _ _ _ _ B E
         (λ i p q. late i (omega arith) ∙ c.beside.others i (λ s t. omega arith) (λ s t. omega arith))

@@ -80,7 +80,8 @@ fn make_chain(records: &Records, area: &mut [u32], chain: Chain)
 
 fn range_dependencies(records: &Records, area: &mut [u32])
     requires { (table_words ≤ length area.old) × Sized records.now.words.now records.now.layout }
-    ensures { Filled area.old (dependency_owner_at records.now.words.now records.now.layout) records.now.layout.dependencies records.now.layout.crates dependency_table area.new }
+    ensures { Filled area.old (dependency_owner_at records.now.words.now records.now.layout)
+        records.now.layout.dependencies records.now.layout.crates dependency_table area.new }
 {
     let base = records.layout.dependency_base();
     let owner = |k| dependency_owner(records.words, base + Size::DEPENDENCY * k);
@@ -95,7 +96,8 @@ fn range_dependencies(records: &Records, area: &mut [u32])
 
 fn range_externs(records: &Records, area: &mut [u32])
     requires { (table_words ≤ length area.old) × Sized records.now.words.now records.now.layout }
-    ensures { Filled area.old (extern_owner_at records.now.words.now records.now.layout) records.now.layout.externs records.now.layout.crates extern_table area.new }
+    ensures { Filled area.old (extern_owner_at records.now.words.now records.now.layout)
+        records.now.layout.externs records.now.layout.crates extern_table area.new }
 {
     let base = records.layout.extern_base();
     let owner = |k| extern_owner(records.words, base + Size::EXTERN * k);

@@ -1,7 +1,8 @@
 -- The kinds of records by their numbers.
 use Rattle.std.specs.Prelude.{ℕ, [], ◌∷◌, get_or, Option, Some, None}
 use Rattle.snapshot.specs.declared.kind.Kind.{Kind}
-use Rattle.snapshot.specs.declared.kind.Kind.TheVariants.{Name, Crate, Dependency, Map, Module, Child, Prelude, Definition, Scope, Import, Extern, Member}
+use Rattle.snapshot.specs.declared.kind.Kind.TheVariants.{Name, Crate, Dependency, Map, Module, Child}
+use Rattle.snapshot.specs.declared.kind.Kind.TheVariants.{Prelude, Definition, Scope, Import, Extern, Member}
 
 -- the number of a kind
 abbrev pub kind_number : Kind → ℕ

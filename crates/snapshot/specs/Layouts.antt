@@ -2,10 +2,10 @@
 use Rattle.std.specs.Prelude.{ℕ, ◌+◌, ◌*◌, ◌/◌, List, get_or}
 use Rattle.snapshot.specs.Lists.{rows}
 use Rattle.snapshot.specs.Limits.{word_limit, crate_limit, module_limit, name_limit}
-use Rattle.snapshot.specs.Sizes.{crate_size, dependency_size, map_size, module_size, child_size, prelude_size, definition_size, scope_size, import_size}
-use Rattle.snapshot.specs.Sizes.{extern_size, member_size}
-use Rattle.snapshot.specs.Records.{Name, Map, Module, Snapshot, name_at, crate_at, dependency_at, map_at, child_at, prelude_at, definition_at, scope_at}
-use Rattle.snapshot.specs.Records.{import_at, extern_at, member_at}
+use Rattle.snapshot.specs.Sizes.{crate_size, dependency_size, map_size, module_size, child_size, prelude_size}
+use Rattle.snapshot.specs.Sizes.{definition_size, scope_size, import_size, extern_size, member_size}
+use Rattle.snapshot.specs.Records.{Name, Map, Module, Snapshot, name_at, crate_at, dependency_at, map_at}
+use Rattle.snapshot.specs.Records.{child_at, prelude_at, definition_at, scope_at, import_at, extern_at, member_at}
 use Rattle.snapshot.specs.declared.layout.Layout.{Layout}
 
 -- the place of the first record of a kind; maps and modules share a run

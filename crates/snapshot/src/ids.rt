@@ -105,7 +105,8 @@ pub enum DefinitionKind {
     Macro,
 }
 
-// A `match` on the numbers of the format: here a word becomes a variant. A table of variants would need a test of its length, a transmute an unsafe step.
+// A `match` on the numbers of the format: here a word becomes a variant. A table of variants would need a test of its length, a transmute
+// an unsafe step.
 // `of` and no `TryFrom`, here and for the other kinds: an error would say no more than `None`.
 impl DefinitionKind {
     /// The kind with a number.

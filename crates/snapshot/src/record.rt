@@ -1,7 +1,7 @@
 //! The fields of the records, by the place of the record's head.
 ghost use Rattle.std.specs.Prelude.{◌≡◌};
-ghost use Rattle.snapshot.specs.Records.{crate_at, dependency_at, map_at, module_at, child_at, prelude_at, definition_at, scope_at, import_at, extern_at};
-ghost use Rattle.snapshot.specs.Records.{member_at};
+ghost use Rattle.snapshot.specs.Records.{crate_at, dependency_at, map_at, module_at, child_at, prelude_at};
+ghost use Rattle.snapshot.specs.Records.{definition_at, scope_at, import_at, extern_at, member_at};
 ghost use Rattle.snapshot.specs.DefinitionKinds.{definition_kind_of};
 ghost use Rattle.snapshot.specs.MemberKinds.{member_kind_of};
 ghost use Rattle.snapshot.specs.Visibilities.{visibility_of};

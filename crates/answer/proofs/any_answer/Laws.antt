@@ -15,6 +15,7 @@ use Rattle.snapshot.specs.PathKinds.{path_kind_number}
 use Rattle.snapshot.specs.declared.layout.Layout.{Layout}
 use Rattle.check_rules.specs.Verdict.{refuse, accept, verdict}
 use Rattle.accept.proofs.Accepted.{by_test}
+use Rattle.module_tree.proofs.Reading.{length_modules}
 use Rattle.hir_def.specs.Items.{item_of}
 use Rattle.hir_def.specs.declared.Item.{Item}
 use Rattle.nameable.specs.Paths.{Path, names_in, route_of}
@@ -25,7 +26,7 @@ use Rattle.find_path_spec.specs.Report.{call_fault, question_fault}
 use Rattle.told_paths.specs.declared.ToldPath.{ToldPath}
 use Rattle.told_paths.specs.Tells.{padded, tell}
 use Rattle.told_paths.proofs.Laws.{tell_few, tell_count, told_gone, told_there}
-use Rattle.answer.proofs.checked.Laws.{small, same_fault, fault_known, definitions_count, modules_count}
+use Rattle.answer.proofs.checked.Laws.{small, same_fault, fault_known, definitions_count}
 use Rattle.answer.specs.Answers.{area_after}
 use Rattle.answer.specs.declared.any_answer.AnyReport.{AnyReport}
 use Rattle.answer.specs.any_answer.Any.{any_without, any_refused, any_reported, any_query, any_unless, any_by, any_after, any_report, AnyAnswers}
@@ -96,7 +97,7 @@ module _ (s : Snapshot) (q : Query) where
 -- a question without a fault is put in a module that is there
 pub asked_known : (W A : List ℕ) (l : Layout) (q : Query) {n : ℕ} → n ≡ question_fault (snap_of W A l) q → n ≡ 0 → q.from.0 < l.modules
 asked_known W A l q en z =
-    (fault_known (snap_of W A l) q l.definitions l.modules (definitions_count W A l) (modules_count W A l) (sym z ∙ en)).1
+    (fault_known (snap_of W A l) q l.definitions l.modules (definitions_count W A l) (length_modules W A l) (sym z ∙ en)).1
 
 -- On checked words.
 module _ (W : List ℕ) (area : ℕ) (q : Query) where

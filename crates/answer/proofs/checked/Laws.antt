@@ -5,6 +5,7 @@ use mathlib.Core.List.{List}
 use mathlib.Core.Bool.{Bool, true, false, ◌&&◌, ◌||◌, not}
 use native.Mathlib.Omega.{arith}
 use borrow.Author.Tests.{lt-ltb, le-ltb, ltb-true, ltb-false}
+use Rattle.std.proofs.lemmas.Bool.{or_parts}
 use lib.Dec.{eqb, ltb}
 use lib.ListN.{length, get_or, take}
 use lib.Seq.{get_or-take}
@@ -24,6 +25,7 @@ use Rattle.accept.proofs.Tabled.{Kept}
 use Rattle.accept.proofs.Stable.{snap_stays, tables_stay}
 use Rattle.accept.proofs.Bools.{and_two}
 use Rattle.hir_def.specs.Items.{definition_of}
+pub use Rattle.module_tree.proofs.Reading.{length_modules}
 use Rattle.find_path_spec.specs.declared.Query.{Query}
 use Rattle.find_path_spec.specs.declared.Question.{Question}
 use Rattle.find_path_spec.specs.declared.Report.{Report}
@@ -57,10 +59,6 @@ module _ (area : ℕ) (q : Query) (fuel : ℕ) where
     unfolding call_fault
     no_fault h t u = rw (call_fault, le-ltb _ _ large, le-ltb _ _ h, t, u)
 
-  or_false : (a b : Bool) → (a || b) ≡ false → a ≡ false
-  or_false true b e = e
-  or_false false b e = refl
-
   -- what a question without a fault of the call has
   pub fault_free : 0 ≡ call_fault area q fuel → (area_limit ≤ area) × (fuel ≤ fuel_limit) × (q.ns ≤ namespace_limit) × (0 < q.limit)
       × (q.limit ≤ path_limit)
@@ -72,7 +70,7 @@ module _ (area : ℕ) (q : Query) (fuel : ℕ) where
       let f = ltb-false fuel_limit fuel u in
       by_test (ltb namespace_limit q.ns || (ltb prefix_limit q.prefix || ltb options_limit q.options))
       (λ v. absurd (omega (arith, e, outside a f v)))
-      (λ v. (a, f, ltb-false 2 q.ns (or_false _ _ v), w.some, w.limit))))
+      (λ v. (a, f, ltb-false 2 q.ns (or_parts _ _ v).0, w.some, w.limit))))
 
 -- the work area counts only by being large enough
 pub same_fault : (a b : ℕ) (q : Query) (fuel : ℕ) → area_limit ≤ a → area_limit ≤ b → call_fault a q fuel ≡ call_fault b q fuel
@@ -104,9 +102,6 @@ module _ (s : Snapshot) (q : Query) (D M : ℕ) (d : length s.definitions ≡ D)
 
 pub definitions_count : (W A : List ℕ) (l : Layout) → length (snap_of W A l).definitions ≡ l.definitions
 definitions_count W A l = length_rows _ l.definitions
-
-pub modules_count : (W A : List ℕ) (l : Layout) → length (snap_of W A l).modules ≡ l.modules
-modules_count W A l = length_rows _ l.modules
 
 -- answers on accepted words
 

@@ -45,26 +45,32 @@ module _ (W : List ℕ) (q : Question) where
     pub few_names : r.count ≤ 16
     few_names = rw a.report (report_bounded W area_limit q).few
 
+    -- the report of a refused snapshot has its number alone; an accepted one is that of the layout
+    pub report_refused : (f : Refused) → c ≡ Err f → refused r.number ≡ report_of W area_limit q
+    report_refused f e =
+        let v : verdict W ≡ refuse (refusal_number f.why) f.at = sym (subst (λ (x : Checked). Judged W A x) e a.checked).same in
+        ap (λ (x : Report). refused x.number) a.report ∙ sym (refusal_only (refusal_number f.why) f.at v)
+
+    pub snapshot_read : (l : Layout) → c ≡ Ok l → snap_of W A l ≡ snapshot_of (verdict W)
+    unfolding snapshot_of
+    snapshot_read l e = ap snapshot_of (subst (λ (x : Checked). Judged W A x) e a.checked).same
+
     module _ (old new : List ℕ) (t : ℕ) where
       pub line_refused : (f : Refused) → c ≡ Err f
           → ((s : Snapshot) (from : ℕ) → Put old 0 (line_in s from (refused r.number) ++ bytes_of "\n") new t) → LineOn W q c A old new t
       unfolding line_of
       line_refused f e p =
-          let v : verdict W ≡ refuse (refusal_number f.why) f.at = sym (subst (λ (x : Checked). Judged W A x) e a.checked).same in
-          let u : refused r.number ≡ report_of W area_limit q = ap (λ (x : Report). refused x.number) a.report
-          ∙ sym (refusal_only (refusal_number f.why) f.at v) in
+          let s = snapshot_of (verdict W) in
           record {
-            line = put_as (ap (λ x. line_in (snapshot_of (verdict W)) q.query.from.0 x ++ bytes_of "\n") u)
-                (p (snapshot_of (verdict W)) q.query.from.0);
+            line = put_as (ap (λ x. line_in s q.query.from.0 x ++ bytes_of "\n") (report_refused f e)) (p s q.query.from.0);
             checked = a.checked;
           }
 
       pub line_accepted : (l : Layout) → c ≡ Ok l → Put old 0 (line_in (snap_of W A l) q.query.from.0 r ++ bytes_of "\n") new t
           → LineOn W q c A old new t
-      unfolding line_of snapshot_of
+      unfolding line_of
       line_accepted l e p =
-          let v : snap_of W A l ≡ snapshot_of (verdict W) = ap snapshot_of (subst (λ (x : Checked). Judged W A x) e a.checked).same in
           record {
-            line = put_as (ap₂ (λ x y. line_in x q.query.from.0 y ++ bytes_of "\n") v a.report) p;
+            line = put_as (ap₂ (λ x y. line_in x q.query.from.0 y ++ bytes_of "\n") (snapshot_read l e) a.report) p;
             checked = a.checked;
           }

@@ -3,7 +3,7 @@ use Prim.Native.Nat.{ℕ, zero, suc, ◌+◌, ◌-◌, ◌*◌, ◌%◌, ◌≤�
 use mathlib.Core.Path.{◌≡◌, refl, sym, ◌∙◌, ap}
 use mathlib.Core.Logic.{◌≢◌}
 use mathlib.Core.List.{List}
-use mathlib.Core.Bool.{Bool, true, false, ◌||◌, not}
+use mathlib.Core.Bool.{Bool, true, false, ◌||◌, not, or-false, or-true, or_assoc}
 use native.Mathlib.Omega.{arith}
 use native.Mathlib.Numerals.{add-one}
 use native.Mathlib.Nat.{add-zero, zero-add}
@@ -18,22 +18,6 @@ use Rattle.snapshot.specs.Words.{pay_of, words_of}
 use Rattle.snapshot.specs.Records.{name_at}
 use Rattle.snapshot.proofs.Laws.{rows_next, rows_none, rows_ext}
 use Rattle.check_records.specs.chains.Chains.{mixed, keys, name_key, slot_of, Marked, Last, ChainedBy, linked}
-
-or_none_lem : (a : Bool) → (a || false) ≡ a
-or_none_lem true = refl
-or_none_lem false = refl
-
-or_true : (a : Bool) → (a || true) ≡ true
-or_true true = refl
-or_true false = refl
-
-or_swap : (a : Bool) → (a || false) ≡ (false || a)
-or_swap true = refl
-or_swap false = refl
-
-or_assoc : (a b c : Bool) → (a || (b || c)) ≡ ((a || b) || c)
-or_assoc true b c = refl
-or_assoc false b c = refl
 
 -- the mixing of a text, word by word
 module _ (f : ℕ → ℕ) (whole a i n : ℕ) (e : whole ≡ mixed a (rows f i (n - i))) where
@@ -145,10 +129,10 @@ module _ (A : List ℕ) (heads links b n : ℕ) where
 -- one row more
 any_more : {X : Type 0} (p : X → Bool) (f : ℕ → X) (k n : ℕ) → any p (rows f k (suc n)) ≡ (any p (rows f k n) || p (f (k + n)))
 unfolding any rows
-any_more p f k zero = rw add-zero (or_swap (p (f k)))
+any_more p f k zero = rw add-zero (or-false (p (f k)))
 any_more p f k (suc n) =
     let e : k + suc n ≡ k + 1 + n = omega arith in
-    rw e (ap (λ x. p (f k) || x) (any_more p f (k + 1) n) ∙ or_assoc (p (f k)) (any p (rows f (k + 1) n)) (p (f (k + 1 + n))))
+    rw e (ap (λ x. p (f k) || x) (any_more p f (k + 1) n) ∙ sym (or_assoc (p (f k)) (any p (rows f (k + 1) n)) (p (f (k + 1 + n)))))
 
 any_last : {X : Type 0} (p : X → Bool) (f : ℕ → X) (n : ℕ) → 0 < n → any p (rows f 0 n) ≡ (any p (rows f 0 (n - 1)) || p (f (n - 1)))
 any_last p f zero h = absurd (omega arith)
@@ -181,11 +165,11 @@ marked_more A marks key n s c fits e = record { same = λ m k. by m k (eqb m s) 
     by m k true q =
         let r : m ≡ s = eqb-true m s q in
         ap (λ x. not (eqb (get_or (set A (marks + s) 1) (marks + x) 0) 0)) r ∙ ap (λ x. not (eqb x 0)) (get_or-set_same A (marks + s) 1 0 fits)
-        ∙ sym (any_next (eqb m) key n ∙ ap (λ x. any (eqb m) (rows key 0 n) || x) (ap (eqb m) e ∙ q) ∙ or_true (any (eqb m) (rows key 0 n)))
+        ∙ sym (any_next (eqb m) key n ∙ ap (λ x. any (eqb m) (rows key 0 n) || x) (ap (eqb m) e ∙ q) ∙ or-true (any (eqb m) (rows key 0 n)))
     by m k false q =
         let r : (m ≡ s → ⊥) = eqb-false m s q in
         ap (λ x. not (eqb x 0)) (get_or-set_other A (marks + s) (marks + m) 1 0 (λ x. r (omega arith))) ∙ c.same m k
-        ∙ sym (any_next (eqb m) key n ∙ ap (λ x. any (eqb m) (rows key 0 n) || x) (ap (eqb m) e ∙ q) ∙ or_none_lem (any (eqb m) (rows key 0 n)))
+        ∙ sym (any_next (eqb m) key n ∙ ap (λ x. any (eqb m) (rows key 0 n) || x) (ap (eqb m) e ∙ q) ∙ or-false (any (eqb m) (rows key 0 n)))
 
 -- the module of a definition, by its kind
 module _ (W : List ℕ) (a : ℕ) {k : ℕ} (e : k ≡ pay_of (get_or W a 0)) where
@@ -206,7 +190,7 @@ any_gap p f c (suc n) h g = by (leb c n) refl (λ r. any_gap p f c n r (λ j s t
     by : (t : Bool) → leb c n ≡ t → (c ≤ n → any p (rows f 0 n) ≡ any p (rows f 0 c)) → any p (rows f 0 (suc n)) ≡ any p (rows f 0 c)
     by true q rest =
         let r : c ≤ n = leb-true c n q in
-        any_more p f 0 n ∙ ap (λ x. any p (rows f 0 n) || x) (rw zero-add (g n r (omega arith))) ∙ or_none_lem (any p (rows f 0 n)) ∙ rest r
+        any_more p f 0 n ∙ ap (λ x. any p (rows f 0 n) || x) (rw zero-add (g n r (omega arith))) ∙ or-false (any p (rows f 0 n)) ∙ rest r
     by false q rest =
         let r : n < c = leb-false c n q in
         let e : c ≡ suc n = omega arith in
@@ -232,7 +216,7 @@ module _ {X : Type 0} (p : X → Bool) (f : ℕ → X) (key : ℕ → ℕ) (b n 
 
   module _ (k : ℕ) (w : Walking p f key b n k) (h : 0 < k) where
     pub walk_hit : p (f (k - 1)) ≡ true → true ≡ any p (rows f 0 n)
-    walk_hit e = sym (w.same ∙ any_last p f k h ∙ ap (λ x. any p (rows f 0 (k - 1)) || x) e ∙ or_true (any p (rows f 0 (k - 1))))
+    walk_hit e = sym (w.same ∙ any_last p f k h ∙ ap (λ x. any p (rows f 0 (k - 1)) || x) e ∙ or-true (any p (rows f 0 (k - 1))))
 
     pub walk_miss : {d : ℕ} → p (f (k - 1)) ≡ false → Last key (key (k - 1)) (k - 1) d → Walking p f key b n d
     walk_miss {d} e l =
@@ -241,7 +225,7 @@ module _ {X : Type 0} (p : X → Bool) (f : ℕ → X) (key : ℕ → ℕ) (b n 
         record {
           within = omega arith;
           keyed = λ q. l.keyed q ∙ w.keyed h;
-          same = w.same ∙ any_last p f k h ∙ ap (λ x. any p (rows f 0 (k - 1)) || x) e ∙ or_none_lem (any p (rows f 0 (k - 1)))
+          same = w.same ∙ any_last p f k h ∙ ap (λ x. any p (rows f 0 (k - 1)) || x) e ∙ or-false (any p (rows f 0 (k - 1)))
               ∙ any_gap p f d (k - 1) v (λ j s t. unlike j (λ q. l.none j s t (q ∙ sym (w.keyed h))));
         }
 

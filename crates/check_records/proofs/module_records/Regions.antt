@@ -2,7 +2,7 @@
 use Prim.Native.Nat.{ℕ, zero, suc, ◌+◌, ◌-◌, ◌*◌, ◌≤◌, ◌<◌}
 use mathlib.Core.Path.{◌≡◌, refl, sym, ◌∙◌, ap, subst}
 use mathlib.Core.List.{List, [], ◌∷◌, ◌++◌}
-use mathlib.Core.Bool.{Bool, true, false, ◌&&◌, ◌||◌, not}
+use mathlib.Core.Bool.{Bool, true, false, ◌&&◌, ◌||◌, not, and-false}
 use native.Mathlib.Omega.{arith}
 use lib.Dec.{eqb, leb, ltb}
 use lib.ListN.{length, get_or, set, length-append, get_or-append}
@@ -153,11 +153,7 @@ module _ (W A : List ℕ) (at : ℕ) (l : Layout) (ms : List Map) (st : Stands W
         → Answered W A 4 (at + map_size) (map_step (snap_with W A l ms) (map_at W at)) (Ok (map_on l at))
     map_on_block z fits h =
         map_on_lem A z fits (λ i u v. refl) (λ i u. refl)
-        (λ k p. st.own k p ∙ sym (own_later k 0 ms (map_at W at) (rw (ne_eqb _ _ h) (no_own (eqb (map_at W at).crate k)))))
-      where
-        no_own : (x : Bool) → (x && false) ≡ false
-        no_own true = refl
-        no_own false = refl
+        (λ k p. st.own k p ∙ sym (own_later k 0 ms (map_at W at) (rw (ne_eqb _ _ h) (and-false (eqb (map_at W at).crate k)))))
 
     -- a crate's own map
     pub map_on_own : {v i : ℕ} → n ≡ 0 → at + map_size ≤ length W → area_limit ≤ length A → (map_at W at).block ≡ 0 → v ≡ l.maps + 1

@@ -2,11 +2,12 @@
 use Prim.Native.Nat.{ℕ, ◌+◌, ◌-◌, ◌*◌, ◌≤◌, ◌<◌}
 use mathlib.Core.Path.{◌≡◌, refl, sym, ◌∙◌, ap}
 use mathlib.Core.List.{List, [], ◌∷◌, ◌++◌}
-use mathlib.Core.Bool.{Bool, true, false, ◌||◌, false≢true}
+use mathlib.Core.Bool.{Bool, true, false}
 use native.Mathlib.Omega.{arith}
 use lib.Dec.{eqb, leb}
 use lib.ListN.{length, get_or}
 use borrow.Author.Tests.{eqb-true, eqb-false, ne_eqb, leb-true, leb-false}
+use Rattle.std.proofs.lemmas.Bool.{or_parts}
 use Rattle.snapshot.specs.Lists.{any}
 use Rattle.snapshot.specs.Limits.{name_limit, module_limit, definition_limit}
 use Rattle.snapshot.specs.Words.{pay_of, words_of}
@@ -359,17 +360,13 @@ pub quiet_on : (W A : List ℕ) (k at : ℕ) (l : Layout) (ms : List Map) → St
     → Answered W A k next (judge a b c d e (add_at k W at (snap_with W A l ms))) (Ok (one_more k l))
 unfolding any
 quiet_on W A k at l ms st q j z place fits =
-    let q1 = or_false _ _ q in
-    let q2 = or_false _ _ q1.1 in
-    let q4 = or_false _ _ q2.1 in
-    let q5 = or_false _ _ q4.1 in
-    let q6 = or_false _ _ q5.1 in
-    let q8 = or_false _ _ q6.1 in
-    let q9 = or_false _ _ q8.1 in
-    let q11 = or_false _ _ q9.1 in
+    let q1 = or_parts _ _ q in
+    let q2 = or_parts _ _ q1.1 in
+    let q4 = or_parts _ _ q2.1 in
+    let q5 = or_parts _ _ q4.1 in
+    let q6 = or_parts _ _ q5.1 in
+    let q8 = or_parts _ _ q6.1 in
+    let q9 = or_parts _ _ q8.1 in
+    let q11 = or_parts _ _ q9.1 in
     plain_on W A A k at l ms st (λ i u v. refl) q1.0 q2.0 q4.0 q5.0 j z place fits (λ e. absurd (eqb-false k 8 q8.0 e))
     (indexes_grown W A A k at l.text l.latest l ms st (λ h. refl) (λ i u v. refl) (λ i u. refl) q1.0 q6.0 q8.0 q9.0 q11.0)
-  where
-    or_false : (a b : Bool) → (a || b) ≡ false → (a ≡ false) × (b ≡ false)
-    or_false true b h = absurd (false≢true (sym h))
-    or_false false b h = (refl, h)

@@ -2,14 +2,12 @@
 use Prim.Native.Nat.{ℕ, ◌+◌, ◌-◌, ◌*◌, ◌%◌, ◌≤◌, ◌<◌}
 use mathlib.Core.Path.{◌≡◌, refl, sym, ◌∙◌, ap, subst}
 use mathlib.Core.Logic.{◌≢◌}
-use mathlib.Core.List.{List, [], ◌∷◌}
-use mathlib.Core.Bool.{Bool, true, false, false≢true}
+use mathlib.Core.List.{List}
+use mathlib.Core.Bool.{Bool, true, false}
 use native.Mathlib.Omega.{arith}
-use lib.Dec.{eqb}
 use lib.ListN.{length, get_or, set, length-set}
 use lib.Seq.{get_or-set_same, get_or-set_other}
-use borrow.Author.Tests.{eqb-true}
-use Rattle.snapshot.specs.Lists.{any, eq_list}
+use Rattle.snapshot.specs.Lists.{any}
 use Rattle.snapshot.specs.Limits.{name_limit, area_limit}
 use Rattle.snapshot.specs.Sizes.{child_size, definition_size, scope_size, extern_size}
 use Rattle.snapshot.specs.Records.{Name, name_at}
@@ -23,8 +21,8 @@ use Rattle.check_records.proofs.chains.Laws.{marked_none, marked_kept, chained_k
 use Rattle.check_records.proofs.chains.Laws.{next_of, Walking}
 use Rattle.check_records.proofs.chains.Laws.{walk_start, walk_hit, walk_miss, walk_end_lem}
 use Rattle.check_rules.specs.Tests.{same_name}
+use Rattle.check_rules.proofs.Names.{name_equal}
 use Rattle.check_records.specs.record_rules.Stands.{Upto, Indexes}
-use Rattle.check_records.proofs.record_rules.Judged.{and_left, and_right}
 
 -- the words of a table, from one place to another, are kept
 abbrev pub Kept : List ℕ → List ℕ → ℕ → ℕ → Type 0
@@ -178,21 +176,8 @@ module _ (W A : List ℕ) (l : Layout) (at key : ℕ) (ix : Indexes W A l) (room
       }
 
 -- names of the same text have the same key
-eq_lists : (xs ys : List ℕ) → eq_list xs ys ≡ true → xs ≡ ys
-unfolding eq_list
-eq_lists [] [] e = refl
-eq_lists [] (y ∷ ys) e = absurd (false≢true e)
-eq_lists (x ∷ xs) [] e = absurd (false≢true e)
-eq_lists (x ∷ xs) (y ∷ ys) e =
-    let p = eqb-true x y (and_left (eqb x y) (eq_list xs ys) e) in
-    let q = eq_lists xs ys (and_right (eqb x y) (eq_list xs ys) e) in
-    cc
-
 pub name_key_same : (x y : Name) → same_name x y ≡ true → name_key y ≡ name_key x
-name_key_same x y e =
-    let p = eqb-true x.bytes y.bytes (and_left (eqb x.bytes y.bytes) (eq_list x.text y.text) e) in
-    let q = eq_lists x.text y.text (and_right (eqb x.bytes y.bytes) (eq_list x.text y.text) e) in
-    cc
+name_key_same x y e = ap name_key (sym (name_equal x y e))
 
 -- a walk along the names with the key of the name at a place
 module _ (W A : List ℕ) (at n : ℕ) {key : ℕ} (ch : Chained A name_heads name_links (λ i. name_key (name_at W (name_head A i))) n)

@@ -7,6 +7,7 @@ use native.Mathlib.Omega.{arith}
 use lib.ListN.{get_or}
 use lib.Dec.{eqb, leb}
 use borrow.Author.Tests.{eq-eqb, eqb-true, lt-ltb, le-ltb}
+use Rattle.std.proofs.lemmas.Bool.{false_from_ne_true}
 use Rattle.snapshot.specs.Lists.{rows, eq_list}
 use Rattle.snapshot.specs.Refusals.{range_refusal, undefined_refusal, repeated_refusal, place_refusal, count_refusal, edition_refusal}
 use Rattle.snapshot.specs.Words.{pay_of, words_of}
@@ -138,11 +139,7 @@ last_same L R a b n en e = by n en
 
 pub text_unlike : (L R : List ℕ) (a b n : ℕ) → n ≡ words_of (pay_of (get_or L a 0)) → (pay_of (get_or R (b + n) 0) ≡ pay_of (get_or L (a + n) 0) → ⊥)
     → false ≡ same_name (name_at L a) (name_at R b)
-text_unlike L R a b n en d = not_so (same_name (name_at L a) (name_at R b)) (λ e. d (last_same L R a b n en e))
-  where
-    not_so : (t : Bool) → (t ≡ true → ⊥) → false ≡ t
-    not_so true h = absurd (h refl)
-    not_so false h = refl
+text_unlike L R a b n en d = sym (false_from_ne_true (same_name (name_at L a) (name_at R b)) (λ e. d (last_same L R a b n en e)))
 
 -- the test of a name's range, of what is read of it
 pub range_is : (W : List ℕ) (at : ℕ) {bytes n : ℕ} {clean : Bool} → bytes ≡ pay_of (get_or W at 0) → n ≡ words_of bytes

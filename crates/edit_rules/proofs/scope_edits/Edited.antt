@@ -71,9 +71,6 @@ module _ (W : List ℕ) (s : Snapshot) (slice : ℕ) (x : Scope) (acc : verdict 
   stands : (i : ℕ) → i < scope_size → get_or (inserted (scopes_end W) (scope_words x) W) (scopes_end W + i) 0 ≡ get_or (scope_words x) i 0
   stands i h = inserted_at W (scope_words x) (scopes_end W) (end_within W s acc) i (rw (words_length x add_small) h)
 
-  eqb_same : (n : ℕ) → eqb n n ≡ true
-  eqb_same n = eq-eqb n n refl
-
   -- the entry is found where it was put in
   found_there : is_entry (same_entry x) (inserted (scopes_end W) (scope_words x) W) (scopes_end W) ≡ true
   found_there =
@@ -83,7 +80,7 @@ module _ (W : List ℕ) (s : Snapshot) (slice : ℕ) (x : Scope) (acc : verdict 
       let k = entry_kind x add_small X (scopes_end W) stands (omega arith) in
       let y = entry_is x add_small X (scopes_end W) stands (omega arith) in
       ap (λ j. eqb j 9 && same_entry x (scope_at X (scopes_end W))) k ∙ ap (λ z. eqb 9 9 && same_entry x z) y
-      ∙ rw (eqb_same x.owner, eqb_same x.ns, eqb_same x.name)
+      ∙ rw (eq-eqb x.owner x.owner refl, eq-eqb x.ns x.ns refl, eq-eqb x.name x.name refl)
 
   pub add_place : entry_place (same_entry x) (inserted (scopes_end W) (scope_words x) W) ≡ scopes_end W
   unfolding entry_place scopes_end

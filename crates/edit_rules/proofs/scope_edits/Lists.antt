@@ -2,7 +2,7 @@
 use Prim.Native.Nat.{ℕ, ◌+◌, ◌≤◌, ◌<◌}
 use mathlib.Core.Path.{◌≡◌, refl, sym, ◌∙◌, ap}
 use mathlib.Core.List.{List, [], ◌∷◌, ◌++◌, map, append_assoc}
-use mathlib.Core.Bool.{Bool, true, false, ◌||◌, or-false, or_assoc}
+use mathlib.Core.Bool.{Bool, true, false, ◌||◌, or-false, or_assoc, or-true}
 use native.Mathlib.Omega.{arith}
 use lib.ListN.{length, get_or, take, drop, length-append, length-take, length-drop, take-append-drop, get_or-append}
 use lib.Seq.{get_or-take, get_or-drop, get_or-append-add, length-take-le, take_at, drop_at}
@@ -42,13 +42,9 @@ any_less t xs y ys e =
     let f = or_none_lem (any t xs) (t y || any t ys) (sym (any_append t xs (y ∷ ys)) ∙ e) in
     any_append t xs ys ∙ rw f.0 (or_none_lem (t y) (any t ys) f.1).1
 
-or_true : (b : Bool) → b || true ≡ true
-or_true true = refl
-or_true false = refl
-
 pub any_middle : {A : Type 0} (t : A → Bool) (xs : List A) (y : A) (ys : List A) → t y ≡ true → any t (xs ++ (y ∷ ys)) ≡ true
 unfolding any
-any_middle t xs y ys e = any_append t xs (y ∷ ys) ∙ rw e (or_true (any t xs))
+any_middle t xs y ys e = any_append t xs (y ∷ ys) ∙ rw e (or-true (any t xs))
 
 pub without_middle : (t : Scope → Bool) (xs : List Scope) (y : Scope) (ys : List Scope) → any t xs ≡ false → t y ≡ true
     → without t (xs ++ (y ∷ ys)) ≡ xs ++ map (moved_scope lower) ys

@@ -4,6 +4,7 @@ use mathlib.Core.Path.{◌≡◌, refl, sym, ◌∙◌, ap, ap₂, subst}
 use mathlib.Core.List.{List, [], ◌∷◌, ◌++◌, map, map-append}
 use mathlib.Core.Bool.{Bool, true, false}
 use native.Mathlib.Omega.{arith}
+use native.Mathlib.Nat.{le_antisymm}
 use native.Mathlib.Nat.{add-zero}
 use lib.Dec.{eqb, leb, ltb}
 use lib.ListN.{length, get_or}
@@ -56,38 +57,31 @@ module _ (W X : List ℕ) (a b : ℕ) where
   crate_same : Same W X a b (crate_size - 1) → crate_at X b ≡ crate_at W a
   crate_same h =
       let e = ap pay_of (same_head W X a b _ h) in
-      let f = h 1 (omega arith) in
-      λ i. record { origin = e i % 8; no_std = e i / 8; edition = f i }
+      λ i. record { origin = e i % 8; no_std = e i / 8; edition = h 1 (omega arith) i }
 
   dependency_same : Same W X a b (dependency_size - 1) → dependency_at X b ≡ dependency_at W a
   dependency_same h =
       let e = ap pay_of (same_head W X a b _ h) in
-      let f = h 1 (omega arith) in
-      let g = h 2 (omega arith) in
-      λ i. record { owner = e i; crate = f i; sysroot = g i }
+      λ i. record { owner = e i; crate = h 1 (omega arith) i; sysroot = h 2 (omega arith) i }
 
   map_same : Same W X a b (map_size - 1) → map_at X b ≡ map_at W a
   map_same h =
       let e = ap pay_of (same_head W X a b _ h) in
-      let f = h 1 (omega arith) in
-      let g = h 2 (omega arith) in
-      λ i. record { crate = e i; block = f i; no_std = g i }
+      λ i. record { crate = e i; block = h 1 (omega arith) i; no_std = h 2 (omega arith) i }
 
   module_same : Same W X a b (module_size - 1) → module_at X b ≡ module_at W a
-  module_same h = let e = ap pay_of (same_head W X a b _ h) in let f = h 1 (omega arith) in λ i. record { map = e i; parent = f i }
+  module_same h = let e = ap pay_of (same_head W X a b _ h) in λ i. record { map = e i; parent = h 1 (omega arith) i }
 
   child_same : Same W X a b (child_size - 1) → child_at X b ≡ child_at W a
-  child_same h = let e = ap pay_of (same_head W X a b _ h) in let f = h 1 (omega arith) in λ i. record { owner = e i; child = f i }
+  child_same h = let e = ap pay_of (same_head W X a b _ h) in λ i. record { owner = e i; child = h 1 (omega arith) i }
 
   prelude_same : Same W X a b (prelude_size - 1) → prelude_at X b ≡ prelude_at W a
-  prelude_same h = let e = ap pay_of (same_head W X a b _ h) in let f = h 1 (omega arith) in λ i. record { map = e i; target = f i }
+  prelude_same h = let e = ap pay_of (same_head W X a b _ h) in λ i. record { map = e i; target = h 1 (omega arith) i }
 
   definition_same : b ≡ a → Same W X a b (definition_size - 1) → definition_at X b ≡ definition_at W a
   definition_same to h =
       let e = ap pay_of (same_head W X a b _ h) in
-      let f = h 1 (omega arith) in
-      let g = h 2 (omega arith) in
-      λ i. record { kind = e i; first = f i; second = g i; place = to i }
+      λ i. record { kind = e i; first = h 1 (omega arith) i; second = h 2 (omega arith) i; place = to i }
 
   -- a record's place goes by m
   pub scope_same : (m : ℕ → ℕ) → b ≡ m a → Same W X a b (scope_size - 1) → scope_at X b ≡ moved_scope m (scope_at W a)
@@ -115,9 +109,7 @@ module _ (W X : List ℕ) (a b : ℕ) where
   extern_same : (m : ℕ → ℕ) → b ≡ m a → Same W X a b (extern_size - 1) → extern_at X b ≡ moved_extern m (extern_at W a)
   extern_same m to h =
       let e = ap pay_of (same_head W X a b _ h) in
-      let f = h 1 (omega arith) in
-      let g = h 2 (omega arith) in
-      λ i. record { owner = e i; name = f i; target = g i; place = to i }
+      λ i. record { owner = e i; name = h 1 (omega arith) i; target = h 2 (omega arith) i; place = to i }
 
   member_same : Same W X a b (member_size - 1) → member_at X b ≡ member_at W a
   member_same h =
@@ -242,9 +234,6 @@ arguments_are W a k e = ap (λ x. arguments_of x (pay_of (get_or W a 0))) e
 pub above : (m k : ℕ) → m ≤ k → eqb k m ≡ false → suc m ≤ k
 above m k h e = let n = eqb-false k m e in omega arith
 
-pub equal : (k m : ℕ) → k ≤ m → m ≤ k → k ≡ m
-equal k m h g = omega arith
-
 -- A record that is no scope: its step keeps the scopes, and is taken as well at another place, after other scopes.
 module _ (W X : List ℕ) (m : ℕ → ℕ) (a b k : ℕ) (to : b ≡ m a) (still : k ≡ 8 → b ≡ a) (here : kind_of (get_or W a 0) ≡ k)
     (h : Same W X a b (arguments_at W a)) (s t : Snapshot) (ys : List Scope)
@@ -298,7 +287,7 @@ module _ (W X : List ℕ) (m : ℕ → ℕ) (a b k : ℕ) (to : b ≡ m a) (stil
         let r4 = above 4 k (above 3 k (above 2 k (above 1 k (leb-true 1 k least) n1) n2) n3) n4 in
         let r8 = above 8 k (above 7 k (above 6 k (above 5 k r4 n5) n6) n7) n8 in
         let r12 = above 12 k (above 11 k (above 10 k (above 9 k r8 n9) n10) n11) n12 in
-        let c : eqb k 13 ≡ true = eq-eqb k 13 (equal k 13 (leb-true k 13 most) r12) in
+        let c : eqb k 13 ≡ true = eq-eqb k 13 (le_antisymm (leb-true k 13 most) r12) in
         rw (record_step, n1, n2, n3, n4, n5, n6, n7, n8, n9, n10, n11) (moved_to member_step (member_at W a) (member_at X b)
         (member_same W X a b (sized 13 c))
         (member_moved m k s t ys (member_at W a) (rw (record_step, n1, n2, n3, n4, n5, n6, n7, n8, n9, n10, n11) at e)))))))))))))

@@ -69,9 +69,6 @@ module _ (t : Scope → Bool) (W : List ℕ) (u : Snapshot) (acc : verdict W ≡
       let e = verdict_records W u acc in
       split W u (is_entry t W) (Absent t) (absent_kept t W) (length W) 0 0 empty e.1 (omega arith) (omega arith) (refl, λ l. (refl, refl))
 
-  pub entry_within : entry_place t W ≤ length W
-  entry_within = entry_split.within
-
   -- where no record is found, no entry passes the test
   pub absent : length W ≤ entry_place t W → any t u.scopes ≡ false
   absent h =

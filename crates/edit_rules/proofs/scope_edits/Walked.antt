@@ -2,7 +2,7 @@
 use Prim.Native.Nat.{ℕ, zero, suc, ◌+◌, ◌-◌, ◌≤◌, ◌<◌}
 use mathlib.Core.Path.{◌≡◌, refl, sym, ◌∙◌, ap, subst}
 use mathlib.Core.List.{List}
-use mathlib.Core.Bool.{Bool, true, false, ◌&&◌, not}
+use mathlib.Core.Bool.{Bool, true, false, ◌&&◌, not, and-false}
 use native.Mathlib.Omega.{arith}
 use lib.Dec.{eqb, ltb}
 use lib.ListN.{length, get_or}
@@ -14,10 +14,6 @@ use Rattle.accept.proofs.Accepted.{by_test}
 use Rattle.edit_rules.specs.Entries.{first_from, is_later, scopes_end, is_entry, entry_place}
 use Rattle.edit_rules.proofs.scope_edits.Moved.{scope_same, arguments_are}
 
-and_false : (b : Bool) → b && false ≡ false
-and_false true = refl
-and_false false = refl
-
 module _ (stop : ℕ → Bool) (W : List ℕ) where
   pub first_end : (n a : ℕ) → length W ≤ a → first_from stop n W a ≡ a
   unfolding first_from
@@ -27,7 +23,7 @@ module _ (stop : ℕ → Bool) (W : List ℕ) where
   pub first_here : (n a : ℕ) → stop a ≡ true → first_from stop n W a ≡ a
   unfolding first_from
   first_here zero a e = refl
-  first_here (suc n) a e = rw (first_from, e, and_false (ltb a (length W)))
+  first_here (suc n) a e = rw (first_from, e, and-false (ltb a (length W)))
 
   pub first_on : (n a : ℕ) → a < length W → stop a ≡ false → first_from stop (suc n) W a ≡ first_from stop n W (a + 1 + arguments_at W a)
   unfolding first_from

@@ -4,6 +4,7 @@ use mathlib.Core.Path.{◌≡◌, refl, sym, ◌∙◌, ap, ap₂, subst}
 use mathlib.Core.List.{List, [], ◌∷◌, ◌++◌, append-nil, append_assoc}
 use mathlib.Core.Bool.{Bool, true, false, ◌&&◌, ◌||◌, not}
 use native.Mathlib.Omega.{arith}
+use native.Mathlib.Nat.{le_antisymm}
 use native.Mathlib.Nat.{add-zero}
 use lib.Dec.{eqb, leb, ltb}
 use lib.ListN.{length, get_or, take, drop}
@@ -36,7 +37,7 @@ use Rattle.edit_rules.specs.Written.{head_of, name_words, crate_words, dependenc
 use Rattle.edit_rules.specs.Written.{definition_words}
 use Rattle.edit_rules.specs.Written.{import_words, extern_words, member_words, each_words, words_within, tree_words, kinds_words, joined}
 use Rattle.edit_rules.specs.Written.{snapshot_words}
-use Rattle.edit_rules.proofs.scope_edits.Moved.{arguments_are, above, equal}
+use Rattle.edit_rules.proofs.scope_edits.Moved.{arguments_are, above}
 use Rattle.edit_rules.proofs.scope_edits.Stepped.{Taking, taking, taking_within, follows_parts}
 use Rattle.edit_rules.proofs.scope_edits.Folded.{records_done, next_record}
 use Rattle.edit_rules.proofs.scope_edits.Split.{verdict_records}
@@ -334,7 +335,7 @@ module _ (W : List ℕ) (at last : ℕ) (s t : Snapshot) (h : Written W at last 
       let r4 = above 4 k (above 3 k (above 2 k (above 1 k (leb-true 1 k p.0) n1) n2) n3) n4 in
       let r8 = above 8 k (above 7 k (above 6 k (above 5 k r4 n5) n6) n7) n8 in
       let r12 = above 12 k (above 11 k (above 10 k (above 9 k r8 n9) n10) n11) p.2 in
-      member_written (equal k 13 (leb-true k 13 p.1) r12) (rw (record_step, n1, n2, n3, n4, n5, n6, n7, n8, n9, n10, n11) at e))))))))))))
+      member_written (le_antisymm (leb-true k 13 p.1) r12) (rw (record_step, n1, n2, n3, n4, n5, n6, n7, n8, n9, n10, n11) at e))))))))))))
 
 records_written : (W : List ℕ) (u : Snapshot) (n at last : ℕ) (s : Snapshot) → at ≤ length W → records n W at last s ≡ accept u
     → length W ≤ n + at → Written W at last s → W ≡ joined (kinds_words u)

@@ -11,6 +11,7 @@ use lib.ListN.{length, get_or, length-append}
 use Rattle.snapshot.specs.Lists.{any}
 use Rattle.snapshot.specs.Records.{Name, Map, Module, Definition, Snapshot}
 use Rattle.check_rules.specs.Tests.{no_name, no_definition, same_name, is_in}
+use Rattle.check_rules.proofs.Names.{name_equal}
 use Rattle.accept.specs.Valid.{Valid}
 use Rattle.accept.proofs.Accepted.{by_test}
 use Rattle.accept.proofs.Bools.{and_three, each_at}
@@ -26,7 +27,7 @@ use Rattle.edit_rules.proofs.scope_edits.Written.{accepted_written}
 use Rattle.join_rules.specs.Joined.{is_new, merged, same_builtin, name_number, second_numbers, dependency_to, map_to, module_to, child_to, prelude_to}
 use Rattle.join_rules.specs.Joined.{definition_to, scope_to, import_to, extern_to, member_to, together, joined_as, join_of}
 use Rattle.join_rules.proofs.Joins.{join_accepted}
-use Rattle.join_rules.proofs.Merged.{name_equal, name_refl}
+use Rattle.join_rules.proofs.Merged.{name_refl}
 use Rattle.join_rules.proofs.Runs.{words_append}
 use Rattle.join_rules.proofs.Sound.{name_apart}
 use Rattle.join_rules.proofs.Stages.{Whole}

@@ -77,7 +77,8 @@ module _ (s : Snapshot) (x : FindPathCtx) where
       → Held left (dependencies s x left item o ds)
   unfolding find_in_deps find_in_dep
   held_deps left item o [] h f = f
-  held_deps left item o (d ∷ ds) h f = held_deps left item (imports s x left o (import_info_for s d.crate item)) ds h (held_imports left o (import_info_for s d.crate item) h f)
+  held_deps left item o (d ∷ ds) h f =
+      held_deps left item (imports s x left o (import_info_for s d.crate item)) ds h (held_imports left o (import_info_for s d.crate item) h f)
 
   pub held_lang : (left : ℕ) (item : Item) (o : Out Tank) (n : ℕ) (b : Bool) → 0 < left → Held left o
       → Held left (in_lang s x left item o n b)
@@ -111,8 +112,8 @@ draw_sum left sought t (suc f) u e =
     let p = ap (λ (y : Tank). y.fuel + y.spent) k in
     omega (arith, p)
 
-pub charge_sum : (left sought : ℕ) (t : Tank) {d : Result Tank Tank} {u : Tank} → charged_by d ≡ from_tank left sought t → d ≡ Ok u → t.fuel + t.spent < 2 ^ 32
-    → u.fuel + u.spent < 2 ^ 32
+pub charge_sum : (left sought : ℕ) (t : Tank) {d : Result Tank Tank} {u : Tank} → charged_by d ≡ from_tank left sought t → d ≡ Ok u
+    → t.fuel + t.spent < 2 ^ 32 → u.fuel + u.spent < 2 ^ 32
 unfolding charged_by from_tank
 charge_sum left sought t {d} {u} e h k =
     let q = draw_sum left sought t t.fuel u (sym (ap charged_by h) ∙ e) in

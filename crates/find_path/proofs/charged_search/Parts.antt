@@ -20,8 +20,8 @@ use Rattle.find_path_choice.specs.Choices.{nothing, length_left}
 use Rattle.find_path_spec.specs.Rules.{module_rules, sought_of}
 use Rattle.find_path_spec.specs.Meters.{Charged, go, stop, from_tank}
 use Rattle.find_path_spec.specs.Conditions.{charged_by}
-use Rattle.find_path_spec.specs.Charged.{Out, Found, found_of, is_stable, langs, one_or_none, is_at, offer_import, find_import, find_in_dep, find_in_deps, find_in_sysroot}
-use Rattle.find_path_spec.specs.Charged.{go_on, after_charge, calculate_best_path, or_charged, find_path_for_module}
+use Rattle.find_path_spec.specs.Charged.{Out, Found, found_of, is_stable, langs, one_or_none, is_at, offer_import, find_import, find_in_dep}
+use Rattle.find_path_spec.specs.Charged.{find_in_deps, find_in_sysroot, go_on, after_charge, calculate_best_path, or_charged, find_path_for_module}
 use Rattle.find_path_spec.specs.Search.{best_local, module_to, search_module}
 use Rattle.find_path_spec.proofs.laws.Unfold.{module_more}
 use Rattle.find_path.specs.charged_search.Parts.{modules, best_path, one_import, imports, dependencies, sysroot, in_lang}

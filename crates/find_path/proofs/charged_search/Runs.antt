@@ -46,7 +46,8 @@ pub record Passed (W A : List ℕ) (l : Layout) (x : FindPathCtx) (left : ℕ) (
   pub held : Held left (out_of f)
 
 pub lang_passed : {W A₀ A : List ℕ} {l : Layout} {x : FindPathCtx} {left : ℕ} {o a : CodeFound} {k : ℕ} (item : Item) (n : ℕ) → Passed W A₀ l x left o
-    → Searched A₀ (in_lang (snap_of W A₀ l) x left item (out_of o) n (is_stable (given o.choice))) A a → length A ≡ k → length A₀ ≡ k → Passed W A l x left a
+    → Searched A₀ (in_lang (snap_of W A₀ l) x left item (out_of o) n (is_stable (given o.choice))) A a → length A ≡ k → length A₀ ≡ k
+    → Passed W A l x left a
 lang_passed {W} {A₀} {A} {l} {x} {left} {o} item n p d e h =
     record {
       begun = begun_later p.begun d.tables (e ∙ sym h);
@@ -157,7 +158,8 @@ module _ (W A₀ A : List ℕ) (l : Layout) (x : FindPathCtx) (left : ℕ) (p : 
         held = subst (Held left) (sym u) (held_import S x left (out_of best) i (is_hidden i) some g.held);
       }
 
-  pub deps_end : (item : Item) (best : CodeFound) (ds : List Dependency) → ds ≡ [] → out_of best ≡ dependencies (snap_of W A₀ l) x left item (out_of best) ds
+  pub deps_end : (item : Item) (best : CodeFound) (ds : List Dependency) → ds ≡ []
+      → out_of best ≡ dependencies (snap_of W A₀ l) x left item (out_of best) ds
   unfolding find_in_deps
   deps_end item best ds e = sym (ap (dependencies (snap_of W A₀ l) x left item (out_of best)) e)
 
@@ -183,5 +185,6 @@ module _ (W A₀ A : List ℕ) (l : Layout) (x : FindPathCtx) (left : ℕ) (p : 
             ∙ g.same;
         tables = a.tables;
         long = e ∙ g.long;
-        held = subst (Held left) (sym (ap taken v)) (held_imports S x left (out_of best) (import_info_for S (dependency_at W h).crate item) some g.held);
+        held = subst (Held left) (sym (ap taken v))
+            (held_imports S x left (out_of best) (import_info_for S (dependency_at W h).crate item) some g.held);
       }

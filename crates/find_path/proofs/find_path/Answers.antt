@@ -31,7 +31,8 @@ returns-then-q-eq c =
     let a = c.args in
     record {
       same = start_builtin (snap_by a.records.now a.area.now) a.q a.fuel
-          refl (ap (λ b. eqb a.q.ns 0 && b) (sym (kind_is Builtin _ c.eq.ensures (c.known_kind_of.ensures a.area.now))) ∙ c.if-q-eq.true) c.builtin_choice.ensures;
+          refl (ap (λ b. eqb a.q.ns 0 && b) (sym (kind_is Builtin _ c.eq.ensures (c.known_kind_of.ensures a.area.now))) ∙ c.if-q-eq.true)
+          c.builtin_choice.ensures;
       tables = refl;
     }
 

@@ -6,4 +6,5 @@ pub returns : goal.returns
 unfolding find_in_scope
 returns c =
     let e = c.scope_entry.ensures in
-    (e, scope_below c.args.db.now.records.words.now c.args.db.now.area.now c.args.db.now.records.layout c.args.db.now.reads c.args.x c.args.item c.scope_entry.result e)
+    let db = c.args.db.now in
+    (e, scope_below db.records.words.now db.area.now db.records.layout db.reads c.args.x c.args.item c.scope_entry.result e)

@@ -15,10 +15,9 @@ returns-then-ne-block c =
 pub returns-then-eq : goal.returns-then-eq
 returns-then-eq c =
     let n = snap_in c.args.db.now in
-    kw_self n c.args.x c.args.m.0 c.krate.ensures
-    c.krate-2.ensures
-    c.in_block.ensures
-    c.in_block-2.ensures (ap (λ z. z || (c.in_block.result || c.in_block-2.result)) (sym c.ne.ensures) ∙ c.if-ne-block.false) (eqb-true _ _ (sym c.eq.ensures ∙ c.if-eq.true))
+    kw_self n c.args.x c.args.m.0 c.krate.ensures c.krate-2.ensures c.in_block.ensures
+    c.in_block-2.ensures (ap (λ z. z || (c.in_block.result || c.in_block-2.result)) (sym c.ne.ensures) ∙ c.if-ne-block.false)
+    (eqb-true _ _ (sym c.eq.ensures ∙ c.if-eq.true))
 
 pub returns : goal.returns
 returns c =

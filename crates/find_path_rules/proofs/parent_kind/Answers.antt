@@ -18,22 +18,25 @@ returns-in_err-parent c =
 pub returns-then-ne : goal.returns-then-ne
 returns-then-ne c =
     let n = snap_in c.args.db.now in
-    parent_no n c.args.x c.args.m.0 _ (some_number _ c.parent.ensures c.in_ok-parent.was) (eqb-false _ _ (not-true _ (sym c.ne.ensures ∙ c.if-ne.true)))
+    parent_no n c.args.x c.args.m.0 _ (some_number _ c.parent.ensures c.in_ok-parent.was)
+    (eqb-false _ _ (not-true _ (sym c.ne.ensures ∙ c.if-ne.true)))
 
 pub root-requires : goal.root-requires
 root-requires c =
-    let l = c.args.db.now.records.layout in
-    let e = map_read c.args.db.now.records.words.now c.args.db.now.area.now l c.args.db.now.reads.tables c.args.x.from.0 c.requires.0 ∙ sym c.map.ensures in
-    subst (λ k. k < l.maps) e (c.args.db.now.reads.tables.below c.args.x.from.0 c.requires.0)
+    let db = c.args.db.now in
+    let e = map_read db.records.words.now db.area.now db.records.layout db.reads.tables c.args.x.from.0 c.requires.0 ∙ sym c.map.ensures in
+    subst (λ k. k < db.records.layout.maps) e (db.reads.tables.below c.args.x.from.0 c.requires.0)
 
 pub returns-then-eq : goal.returns-then-eq
 returns-then-eq c =
     let n = snap_in c.args.db.now in
     parent_crate n c.args.x c.args.m.0 c.map.ensures c.root.ensures _
-    (some_number _ c.parent.ensures c.in_ok-parent.was) (eqb-true _ _ (not-false _ (sym c.ne.ensures ∙ c.if-ne.false))) (eqb-true _ _ (sym c.eq.ensures ∙ c.if-eq.true))
+    (some_number _ c.parent.ensures c.in_ok-parent.was) (eqb-true _ _ (not-false _ (sym c.ne.ensures ∙ c.if-ne.false)))
+    (eqb-true _ _ (sym c.eq.ensures ∙ c.if-eq.true))
 
 pub returns : goal.returns
 returns c =
     let n = snap_in c.args.db.now in
     parent_super n c.args.x c.args.m.0 c.map.ensures c.root.ensures _
-    (some_number _ c.parent.ensures c.in_ok-parent.was) (eqb-true _ _ (not-false _ (sym c.ne.ensures ∙ c.if-ne.false))) (eqb-false _ _ (sym c.eq.ensures ∙ c.if-eq.false))
+    (some_number _ c.parent.ensures c.in_ok-parent.was) (eqb-true _ _ (not-false _ (sym c.ne.ensures ∙ c.if-ne.false)))
+    (eqb-false _ _ (sym c.eq.ensures ∙ c.if-eq.false))

@@ -36,4 +36,5 @@ returns c =
     c.extern_rule.ensures
     ∙ root_extern n c.args.x c.args.maybe_extern c.args.m.0
     c.crate_root.ensures
-    (eqb-true _ _ (not-false _ (sym c.ne.ensures ∙ c.if-ne.false))) (ap (λ z. not c.args.maybe_extern || z) (sym c.eq.ensures) ∙ c.if-maybe_extern-eq.false) (c.extern_of-e.ensures c.args.db.now.area.now)
+    (eqb-true _ _ (not-false _ (sym c.ne.ensures ∙ c.if-ne.false)))
+    (ap (λ z. not c.args.maybe_extern || z) (sym c.eq.ensures) ∙ c.if-maybe_extern-eq.false) (c.extern_of-e.ensures c.args.db.now.area.now)

@@ -22,9 +22,8 @@ use Rattle.find_path_choice.specs.Choices.{name_len, path_kind_len, plain_path, 
 use Rattle.find_path_choice.specs.Choices.{better}
 use Rattle.find_path_choice.specs.Choices.{try_select}
 use Rattle.find_path_spec.specs.Walk.{Level}
-use Rattle.find_path_spec.specs.Rules.{by_crate, may_be_in_scope, prefix_path_kind, context_of, first_found, single, scope_rule, prelude_rule, extern_name}
-use Rattle.find_path_spec.specs.Rules.{root_rule}
-use Rattle.find_path_spec.specs.Rules.{keyword_of, module_rules, is_kw_kind_relative_to_from, find_in_scope}
+use Rattle.find_path_spec.specs.Rules.{by_crate, may_be_in_scope, prefix_path_kind, context_of, first_found, single, scope_rule, prelude_rule}
+use Rattle.find_path_spec.specs.Rules.{extern_name, root_rule, keyword_of, module_rules, is_kw_kind_relative_to_from, find_in_scope}
 use Rattle.find_path_spec.specs.Local.{LocalSearch, offer, offer_entry, importable_name, location, each_location, calculate_best_path_local, or_local}
 use Rattle.find_path_spec.specs.Local.{find_path_for_module_local}
 use Rattle.find_path_spec.specs.Meters.{Charged, go, stop, Charge}

@@ -1,11 +1,11 @@
 -- Every module that a local search takes is of the viewer's crate, and the root of a module's own map is its crate's.
-use mathlib.Core.Path.{◌≡◌, refl, ap, sym, ◌∙◌, subst}
+use mathlib.Core.Path.{◌≡◌, refl, ap, sym, ◌∙◌}
 use Prim.Native.Nat.{ℕ, zero, suc, ◌+◌, ◌≤◌, ◌<◌}
 use native.Mathlib.Omega.{arith}
 use native.Mathlib.Decide.{dec_le}
 use native.Mathlib.Numerals.{add-one}
 use mathlib.Core.List.Memᴰ
-use mathlib.Core.List.{List, [], ◌∷◌, ◌++◌, map}
+use mathlib.Core.List.{List, [], ◌∷◌, map}
 use mathlib.Core.Bool.{Bool, true, false, ◌&&◌, ◌||◌}
 use lib.Dec.{eqb}
 use lib.ListN.{length, get_or, get_or-eq_default}
@@ -23,6 +23,8 @@ use Rattle.hir_def.specs.Nameres.{children_of, containers, steps, steps_to, step
 use Rattle.hir_def.proofs.Laws.{by_number}
 use Rattle.hir_def.proofs.Found.{each_select}
 use Rattle.hir_def.proofs.Chains.{map_known, parent_fits, block_fits}
+pub use Rattle.hir_def.proofs.Every.{each_append}
+use Rattle.hir_def.proofs.Every.{each_in}
 use Rattle.find_path_spec.specs.Walk.{has, unmet, walk, start_from, leads_to, find_local_import_locations}
 use Rattle.find_path_spec.specs.laws.Routes.{◌∈◌}
 
@@ -34,15 +36,6 @@ select_found p [] f = Each.none
 select_found p (x ∷ xs) f =
     let g = select_found p xs (λ y h. f y (Memᴰ.tail h)) in
     by_test (p x) (λ t. rw (t, select) (more (f x (Memᴰ.head refl) t) g)) (λ t. rw (t, select) g)
-
-pub each_in : {A : Type 0} {P : A → Type 0} {y : A} {xs : List A} → Each P xs → y ∈ xs → P y
-each_in Each.none m = absurd (Memᴰ.not-nil m)
-each_in {P = P} (more p h) (Memᴰ.head e) = subst P (sym e) p
-each_in (more p h) (Memᴰ.tail m) = each_in h m
-
-pub each_append : {A : Type 0} {P : A → Type 0} {xs ys : List A} → Each P xs → Each P ys → Each P (xs ++ ys)
-each_append Each.none h = h
-each_append (more p g) h = more p (each_append g h)
 
 pub each_of : {A B : Type 0} (P : B → Type 0) (f : A → B) {xs : List A} → Each (λ x. P (f x)) xs → Each P (map f xs)
 each_of P f Each.none = Each.none

@@ -1,54 +1,20 @@
 -- A local walk that passes over more modules takes fewer: none that the other does not take.
 use mathlib.Core.Path.{◌≡◌, refl, ap, sym, ◌∙◌}
-use Prim.Native.Nat.{ℕ, zero, suc, ◌+◌, ◌≤◌, ◌<◌}
+use Prim.Native.Nat.{ℕ, zero, suc, ◌+◌, ◌≤◌}
 use native.Mathlib.Omega.{arith}
 use mathlib.Core.List.{List, [], ◌∷◌, ◌++◌}
-use mathlib.Core.Bool.{Bool, true, false, ◌&&◌, ◌||◌, not, and-false, or-true, or_assoc, true≢false, false≢true}
-use mathlib.Core.Logic.{◌⊎◌, inl, inr, ⊎_elim}
-use lib.Dec.{eqb, ltb}
+use mathlib.Core.Bool.{Bool, true, false, ◌&&◌, ◌||◌, not, and-false, or_assoc, true≢false, false≢true}
+use mathlib.Core.Logic.{⊎_elim}
+use lib.Dec.{eqb}
 use lib.ListN.{length, length-append}
-use borrow.Author.Tests.{eq-eqb, eqb-true, ltb-true, ltb-false}
+use borrow.Author.Tests.{eq-eqb, eqb-true}
+pub use Rattle.std.proofs.lemmas.Bool.{or_cases as either, and_parts as both, and_from as and_both, cases_Bool as tested, cases_lt as less_or}
+pub use Rattle.std.proofs.lemmas.Bool.{false_from_ne_true as refuted, or_left, or_right, or_from as or_none_lem, or_parts as or_both}
 use Rattle.snapshot.specs.Lists.{any}
 use Rattle.snapshot.specs.Records.{Snapshot}
 use Rattle.hir_def.specs.Finds.{select}
 use Rattle.find_path_spec.specs.Walk.{has, start_from, leads_to, unmet, walk, find_local_import_locations}
 use Rattle.find_path_spec.proofs.laws.Walks.{select_hit, select_miss, select_short, unmet_short, has_snoc, walk_skip, walk_take, untaken, leads_fall}
-
-pub either : (a b : Bool) → a || b ≡ true → (a ≡ true) ⊎ (b ≡ true)
-either true b e = inl refl
-either false b e = inr e
-
-pub both : (a b : Bool) → a && b ≡ true → (a ≡ true) × (b ≡ true)
-both true b e = (refl, e)
-both false b e = absurd (false≢true e)
-
-pub and_both : (a b : Bool) → a ≡ true → b ≡ true → a && b ≡ true
-and_both a b e f = rw e f
-
-pub tested : (b : Bool) → (b ≡ true) ⊎ (b ≡ false)
-tested true = inl refl
-tested false = inr refl
-
--- a test that cannot be true
-pub refuted : (b : Bool) → (b ≡ true → ⊥) → b ≡ false
-refuted true h = absurd (h refl)
-refuted false h = refl
-
-pub less_or : (a b : ℕ) → (a < b) ⊎ (b ≤ a)
-less_or a b = ⊎_elim (λ t. inl (ltb-true a b t)) (λ t. inr (ltb-false a b t)) (tested (ltb a b))
-
-pub or_left : (a b : Bool) → a ≡ true → a || b ≡ true
-or_left a b e = rw e
-
-pub or_right : (a b : Bool) → b ≡ true → a || b ≡ true
-or_right a b e = rw e (or-true a)
-
-pub or_none_lem : (a b : Bool) → a ≡ false → b ≡ false → a || b ≡ false
-or_none_lem a b e f = rw e f
-
-pub or_both : (a b : Bool) → a || b ≡ false → (a ≡ false) × (b ≡ false)
-or_both true b e = absurd (true≢false e)
-or_both false b e = (refl, e)
 
 -- all that the one list has, the other has
 abbrev pub Within : List ℕ → List ℕ → Type 0

@@ -15,8 +15,8 @@ use Rattle.hir_def.specs.declared.Item.{Item}
 use Rattle.find_path_choice.specs.Choices.{Choice}
 use Rattle.find_path_spec.specs.declared.FindPathCtx.{FindPathCtx}
 use Rattle.find_path_choice.specs.Choices.{plain_path, crate_path, nothing, path_len, keyword, choice_new, extended, push, length_left}
-use Rattle.find_path_spec.specs.Rules.{by_crate, prefix_path_kind, first_found, single, may_be_in_scope, scope_rule, prelude_rule, root_rule, keyword_of}
-use Rattle.find_path_spec.specs.Rules.{module_rules}
+use Rattle.find_path_spec.specs.Rules.{by_crate, prefix_path_kind, first_found, single, may_be_in_scope}
+use Rattle.find_path_spec.specs.Rules.{scope_rule, prelude_rule, root_rule, keyword_of, module_rules}
 use Rattle.find_path_spec.specs.Walk.{Level, has}
 use Rattle.find_path_spec.specs.Local.{LocalSearch, importable_name, location, calculate_best_path_local, or_local, find_path_for_module_local}
 use Rattle.find_path_spec.specs.Search.{local_to, search_local}

@@ -21,12 +21,12 @@ use Rattle.find_path_choice.specs.Choices.{Choice}
 use Rattle.find_path_spec.specs.declared.FindPathCtx.{FindPathCtx}
 use Rattle.find_path_spec.specs.declared.Query.{Query}
 use Rattle.find_path_spec.specs.declared.Report.{Report}
-use Rattle.find_path_choice.specs.Choices.{plain_path, self_path, crate_path, via_scope, via_prelude, via_extern, via_import, step_by, nothing, keyword}
-use Rattle.find_path_choice.specs.Choices.{choice_new, extended, push, unstably, better, try_select, path_len, shorter_if, length_left}
+use Rattle.find_path_choice.specs.Choices.{plain_path, self_path, crate_path, via_scope, via_prelude, via_extern, via_import, step_by, nothing}
+use Rattle.find_path_choice.specs.Choices.{keyword, choice_new, extended, push, unstably, better, try_select, path_len, shorter_if, length_left}
 use Rattle.find_path_spec.specs.Walk.{Level}
-use Rattle.find_path_spec.specs.Rules.{prefix_path_kind, context_of, first_found, single, find_in_scope, may_be_in_scope, scope_rule, same_here, is_usable}
-use Rattle.find_path_spec.specs.Rules.{prelude_entry, in_prelude, find_in_prelude, prelude_rule, extern_kind, extern_name, root_rule, parent_kind}
-use Rattle.find_path_spec.specs.Rules.{is_kw_kind_relative_to_from, keyword_of, module_rules}
+use Rattle.find_path_spec.specs.Rules.{prefix_path_kind, context_of, first_found, single, find_in_scope, may_be_in_scope, scope_rule}
+use Rattle.find_path_spec.specs.Rules.{same_here, is_usable, prelude_entry, in_prelude, find_in_prelude, prelude_rule, extern_kind}
+use Rattle.find_path_spec.specs.Rules.{extern_name, root_rule, parent_kind, is_kw_kind_relative_to_from, keyword_of, module_rules}
 use Rattle.find_path_spec.specs.Local.{LocalSearch, offer, offer_entry, is_importable, entry_if, importable_name, location, each_location}
 use Rattle.find_path_spec.specs.Local.{calculate_best_path_local, or_local, find_path_for_module_local}
 use Rattle.find_path_spec.specs.Meters.{counted}

@@ -15,8 +15,8 @@ use Rattle.find_path_spec.specs.declared.Query.{Query}
 use Rattle.find_path_spec.specs.declared.Question.{Question}
 use Rattle.find_path_spec.specs.declared.Report.{Report}
 use Rattle.find_path_spec.specs.Rules.{bit}
-use Rattle.find_path_spec.specs.Report.{call_fault, question_fault, refused, flag, misleads, outcome_by, outcome_of, reported, searched, answer_unless}
-use Rattle.find_path_spec.specs.Report.{report_by, report_unless, report_of}
+use Rattle.find_path_spec.specs.Report.{call_fault, question_fault, refused, flag, misleads, outcome_by, outcome_of}
+use Rattle.find_path_spec.specs.Report.{reported, searched, answer_unless, report_by, report_unless, report_of}
 use Rattle.find_path_spec.proofs.laws.Refusals.{NumberSmall, verdict_small, call_small, question_small, Allowed, call_allowed}
 
 -- found or none

@@ -22,32 +22,32 @@ use Rattle.hir_def.specs.ImportMap.{import_info_for, is_hidden}
 use Rattle.hir_def.specs.declared.Item.{Item}
 use Rattle.hir_def.specs.declared.Item.TheVariants.{Mod, Def}
 use Rattle.read_back.specs.readings.Reads as Reads
-use Rattle.read_back.specs.readings.Reads.{self_kind, super_kind, crate_kind, absolute_kind, outward, scopes_from, stands_for, meaning, entry_or, extern_named}
-use Rattle.read_back.specs.readings.Reads.{in_externs, prelude_means, in_prelude_of, entry_from, first_name, variant_named, variant_in, later_name, after}
-use Rattle.read_back.specs.readings.Reads.{looked_in}
-use Rattle.read_back.specs.readings.Reads.{follow, absolutely, parent_means, reads_to, is_the, reads_back}
+use Rattle.read_back.specs.readings.Reads.{self_kind, super_kind, crate_kind, absolute_kind, outward, scopes_from, stands_for, meaning, entry_or}
+use Rattle.read_back.specs.readings.Reads.{extern_named, in_externs, prelude_means, in_prelude_of, entry_from, first_name, variant_named}
+use Rattle.read_back.specs.readings.Reads.{variant_in, later_name, after, looked_in, follow, absolutely, parent_means, reads_to, is_the, reads_back}
 use Rattle.hir_def.proofs.Plain.{plain, plainly, plain_of, first_plain, name_plain, names_plain}
 use Rattle.find_path_choice.specs.Choices.{Choice}
 use Rattle.find_path_spec.specs.declared.FindPathCtx.{FindPathCtx}
 use Rattle.find_path_spec.specs.declared.Query.{Query}
 use Rattle.find_path_spec.specs.declared.Question.{Question}
 use Rattle.find_path_spec.specs.declared.Tank.{Tank}
-use Rattle.find_path_choice.specs.Choices.{plain_path, self_path, crate_path, via_scope, via_prelude, via_extern, step_by, nothing, keyword, name_data}
-use Rattle.find_path_choice.specs.Choices.{is_prelude}
-use Rattle.find_path_choice.specs.Choices.{choice_new, extended, push, better, try_select}
+use Rattle.find_path_choice.specs.Choices.{plain_path, self_path, crate_path, via_scope, via_prelude, via_extern, step_by, nothing}
+use Rattle.find_path_choice.specs.Choices.{keyword, name_data, is_prelude, choice_new, extended, push, better, try_select}
 use Rattle.find_path_spec.specs.Walk.{Level, visited, start_from, leads_to, walk, find_local_import_locations}
 use Rattle.find_path_spec.specs.Rules.{bit, prefix_path_kind, context_of, first_found, single, find_in_scope, may_be_in_scope, scope_rule, same_here}
 use Rattle.find_path_spec.specs.Rules.{is_usable}
 use Rattle.find_path_spec.specs.Rules.{prelude_entry, in_prelude, find_in_prelude, prelude_rule, extern_kind, extern_name, root_rule, parent_kind}
 use Rattle.find_path_spec.specs.Rules.{is_kw_kind_relative_to_from, keyword_of, module_rules}
 use Rattle.find_path_spec.specs.Meters.{Charged, go, stop, Charge}
-use Rattle.find_path_spec.specs.Charged.{Out, Search, Inner, is_stable, langs, one_or_none, is_at, variant_of, push_variant, offer_import, find_import}
-use Rattle.find_path_spec.specs.Charged.{find_imports, find_in_dep, find_in_deps, find_in_sysroot, go_on, after_charge, calculate_best_path, or_charged}
-use Rattle.find_path_spec.specs.Charged.{find_path_for_module, after_enum, via_enum, or_enum, by_name, of_module, find_path_inner}
+use Rattle.find_path_spec.specs.Charged.{Out, Search, Inner, is_stable, langs, one_or_none, is_at, variant_of, push_variant}
+use Rattle.find_path_spec.specs.Charged.{offer_import, find_import, find_imports, find_in_dep, find_in_deps, find_in_sysroot}
+use Rattle.find_path_spec.specs.Charged.{go_on, after_charge, calculate_best_path, or_charged, find_path_for_module}
+use Rattle.find_path_spec.specs.Charged.{after_enum, via_enum, or_enum, by_name, of_module, find_path_inner}
 use Rattle.find_path_spec.specs.Search.{is_builtin_type, builtin_choice, local_to, search_local, best_local, module_to, search_module, item_to}
 use Rattle.find_path_spec.specs.Search.{search_item}
 use Rattle.find_path_spec.specs.Search.{from_home, from_item, find_path}
-use Rattle.find_path_spec.specs.Report.{question_fault, flag, misleads, outcome_by, reported, searched, answer_unless, report_by, report_unless, report_of}
+use Rattle.find_path_spec.specs.Report.{question_fault, flag, misleads, outcome_by, reported}
+use Rattle.find_path_spec.specs.Report.{searched, answer_unless, report_by, report_unless, report_of}
 use Rattle.find_path_spec.specs.Local.{LocalSearch, offer, offer_entry, is_importable, entry_if, importable_name, location, each_location}
 use Rattle.find_path_spec.specs.Local.{calculate_best_path_local, or_local, find_path_for_module_local}
 

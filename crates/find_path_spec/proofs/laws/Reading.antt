@@ -15,8 +15,9 @@ use Rattle.snapshot.specs.Records.{Snapshot}
 use Rattle.check_rules.specs.Verdict.{refuse, accept, verdict}
 use Rattle.accept.proofs.Accepted.{by_test}
 use Rattle.accept.proofs.Bools.{and_two, or_right}
-use Rattle.hir_def.specs.Items.{types, module_kind, builtin_kind, map_of, map_no, crate_of, crate_data, definition_of, item_of, ns_of}
+use Rattle.hir_def.specs.Items.{types, builtin_kind, map_of, map_no, crate_of, crate_data, definition_of}
 use Rattle.hir_def.specs.declared.Item.{Item}
+use Rattle.hir_def.proofs.Same.{ns_of_item}
 use Rattle.read_back.specs.readings.Reads.{reads_to, reads_back}
 use Rattle.read_back.proofs.Exact.{reads_exactly, exactly_reads}
 use Rattle.find_path_choice.specs.Choices.{Choice}
@@ -27,9 +28,8 @@ use Rattle.find_path_spec.specs.Rules.{bit, context_of}
 use Rattle.find_path_spec.specs.Meters.{Charge}
 use Rattle.find_path_spec.specs.Charged.{Out}
 use Rattle.find_path_spec.specs.Search.{is_builtin_type, search_item, from_home, from_item, find_path}
-use Rattle.find_path_spec.specs.Report.{call_fault, question_fault, refused, flag, misleads, outcome_by, outcome_of, reported, searched, answer_unless}
-use Rattle.find_path_spec.specs.Report.{report_by, report_unless, report_of}
-use Rattle.find_path_spec.specs.Report.{report_at}
+use Rattle.find_path_spec.specs.Report.{call_fault, question_fault, refused, flag, misleads, outcome_by, outcome_of}
+use Rattle.find_path_spec.specs.Report.{reported, searched, answer_unless, report_by, report_unless, report_of, report_at}
 use Rattle.find_path_spec.specs.laws.Routes.{asked_item}
 use Rattle.find_path_spec.specs.laws.Reading.{with_reading, MeansItem, ReadAs, ReadBack}
 use Rattle.find_path_spec.proofs.laws.Outcomes.{outcome_unread}
@@ -132,14 +132,6 @@ outcomes false b p =
       refused = ((λ z. z), λ z. z);
     }
 
--- the namespace of an item is that of the question
-item_ns : (s : Snapshot) (ns d : ℕ) → ns_of (item_of s ns d) ≡ ns
-unfolding ns_of item_of
-item_ns s ns d =
-    by_test (eqb ns types && eqb (definition_of s d).kind module_kind)
-    (λ t. let f = and_two (eqb ns types) (eqb (definition_of s d).kind module_kind) t in rw (item_of, t) (sym (eqb-true ns types f.0)))
-    (λ t. rw (item_of, t))
-
 module _ (s : Snapshot) (q : Query) (o : Out Tank) (below : q.options < 64) where
   abbrev choice : Choice
   choice = o.choice
@@ -156,7 +148,7 @@ module _ (s : Snapshot) (q : Query) (o : Out Tank) (below : q.options < 64) wher
       ⊎_elim (λ e. rw (eq-eqb _ _ e.0, eq-eqb _ _ e.1))
       (λ e. fewer.or_right (is_builtin_type s q) back (exactly_reads s q.from.0 (asked_item s q) choice.kind (take choice.count choice.names)
       (subst (λ (n : ℕ). reads_to s q.from.0 n choice.kind (take choice.count choice.names) ≡ Some (asked_item s q))
-      (sym (item_ns s q.ns q.definition.0)) e))) h
+      (sym (ns_of_item s q.ns q.definition.0)) e))) h
 
   back_means : (is_builtin_type s q || back) ≡ true → means
   unfolding reported
@@ -165,7 +157,7 @@ module _ (s : Snapshot) (q : Query) (o : Out Tank) (below : q.options < 64) wher
       (λ e. let f = and_two (eqb q.ns types) (eqb (definition_of s q.definition.0).kind builtin_kind) e in
       inl (eqb-true _ _ f.0, eqb-true _ _ f.1))
       (λ e. inr (subst (λ (n : ℕ). reads_to s q.from.0 n choice.kind (take choice.count choice.names) ≡ Some (asked_item s q))
-      (item_ns s q.ns q.definition.0)
+      (ns_of_item s q.ns q.definition.0)
       (reads_exactly s q.from.0 (asked_item s q) choice.kind (take choice.count choice.names) (or_right _ _ h e))))
 
   clear : bit q.options 64 ≡ false

@@ -32,16 +32,17 @@ use Rattle.hir_def.specs.ImportMap.{is_import, import_info_for, is_hidden, is_un
 use Rattle.hir_def.specs.declared.Item.{Item}
 use Rattle.hir_def.specs.declared.Item.TheVariants.{Mod, Def}
 use Rattle.hir_def.proofs.Fresh.{preferred_has}
-use Rattle.read_back.proofs.Exact.{same_item_lem}
+use Rattle.hir_def.proofs.Same.{same_item_lem}
+use Rattle.hir_def.proofs.Every.{each_in, each_append}
 use Rattle.find_path_choice.specs.Choices.{Choice}
 use Rattle.find_path_spec.specs.declared.FindPathCtx.{FindPathCtx}
 use Rattle.find_path_spec.specs.declared.Query.{Query}
 use Rattle.find_path_spec.specs.declared.Question.{Question}
 use Rattle.find_path_spec.specs.declared.Report.{Report}
 use Rattle.find_path_spec.specs.declared.Tank.{Tank}
-use Rattle.find_path_choice.specs.Choices.{plain_path, self_path, super_path, crate_path, via_builtin, via_scope, via_prelude, via_extern, via_keyword}
-use Rattle.find_path_choice.specs.Choices.{via_variant}
-use Rattle.find_path_choice.specs.Choices.{via_local, via_import, step_by, nothing, keyword, choice_new, extended, push, unstably, better, try_select}
+use Rattle.find_path_choice.specs.Choices.{plain_path, self_path, super_path, crate_path, via_builtin, via_scope}
+use Rattle.find_path_choice.specs.Choices.{via_prelude, via_extern, via_keyword, via_variant, via_local, via_import, step_by}
+use Rattle.find_path_choice.specs.Choices.{nothing, keyword, choice_new, extended, push, unstably, better, try_select}
 use Rattle.find_path_spec.specs.Walk.{Level, visited}
 use Rattle.find_path_spec.specs.Rules.{bit, by_crate, may_be_in_scope, prefix_path_kind, context_of, first_found, single, find_in_scope, scope_rule}
 use Rattle.find_path_spec.specs.Rules.{find_in_prelude}
@@ -49,21 +50,20 @@ use Rattle.find_path_spec.specs.Rules.{prelude_rule, extern_name, root_rule, par
 use Rattle.find_path_spec.specs.Local.{LocalSearch, offer, offer_entry, is_importable, entry_if, importable_name, location, each_location}
 use Rattle.find_path_spec.specs.Local.{calculate_best_path_local, or_local, find_path_for_module_local}
 use Rattle.find_path_spec.specs.Meters.{Charged, go, stop, from_tank, Charge, filled}
-use Rattle.find_path_spec.specs.Charged.{Out, Search, Inner, langs, one_or_none, is_at, variant_of, push_variant, offer_import, find_import, find_imports}
-use Rattle.find_path_spec.specs.Charged.{find_in_dep, find_in_deps, find_in_sysroot, go_on, after_charge, calculate_best_path, or_charged}
-use Rattle.find_path_spec.specs.Charged.{find_path_for_module}
-use Rattle.find_path_spec.specs.Charged.{after_enum, via_enum, or_enum, by_name, of_module, find_path_inner}
+use Rattle.find_path_spec.specs.Charged.{Out, Search, Inner, langs, one_or_none, is_at, variant_of, push_variant, offer_import, find_import}
+use Rattle.find_path_spec.specs.Charged.{find_imports, find_in_dep, find_in_deps, find_in_sysroot, go_on, after_charge, calculate_best_path}
+use Rattle.find_path_spec.specs.Charged.{or_charged, find_path_for_module, after_enum, via_enum, or_enum, by_name, of_module, find_path_inner}
 use Rattle.find_path_spec.specs.Search.{builtin_choice, local_to, search_local, best_local, module_to, search_module, item_to, search_item, from_home}
 use Rattle.find_path_spec.specs.Search.{from_item}
 use Rattle.find_path_spec.specs.Search.{find_path}
 use Rattle.find_path_spec.specs.Report.{refused, reported, searched, report_of}
 use Rattle.find_path_spec.specs.laws.Fuels.{HasPath}
-use Rattle.find_path_spec.specs.laws.Routes.{◌∈◌, Start, self, super, crate, scope, prelude, extern, builtin, Step, entry, imported, Route, start, step}
-use Rattle.find_path_spec.specs.laws.Routes.{Path, direct, variant, rule_kind, rule_of, place_of, Shown, asked_item, asked_context, route_steps, Routed}
-use Rattle.find_path_spec.specs.laws.Routes.{is_near}
+use Rattle.find_path_spec.specs.laws.Routes.{◌∈◌, Start, self, super, crate, scope, prelude, extern, builtin, Step, entry}
+use Rattle.find_path_spec.specs.laws.Routes.{imported, Route, start, step, Path, direct, variant, rule_kind, rule_of}
+use Rattle.find_path_spec.specs.laws.Routes.{place_of, Shown, asked_item, asked_context, route_steps, Routed, is_near}
 use Rattle.find_path_spec.proofs.laws.Bounds.{Fits, more as wider, first_none as none-fits, first_fits, new_fits, scope_fits, prelude_fits}
 use Rattle.find_path_spec.proofs.laws.Bounds.{best_local_fits, best_within, module_search_fits, item_to_fits, search_fits}
-use Rattle.find_path_spec.proofs.laws.Crates.{Near, each_in, each_append, select_found, own_root, crate_root_lem, locations_near}
+use Rattle.find_path_spec.proofs.laws.Crates.{Near, select_found, own_root, crate_root_lem, locations_near}
 use Rattle.find_path_spec.proofs.laws.Known.{held_at, scope_held, prelude_held, extern_held, definition_in_lem, variant_in_lem}
 use Rattle.find_path_spec.proofs.laws.Refusals.{Allowed}
 use Rattle.find_path_spec.proofs.laws.Outcomes.{path_found, Kind, refusal, answer, kind_of_lem}

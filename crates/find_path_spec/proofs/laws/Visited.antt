@@ -2,7 +2,7 @@
 use mathlib.Core.Path.{◌≡◌, refl, ap, sym, ◌∙◌}
 use Prim.Native.Nat.{ℕ, zero, suc}
 use mathlib.Core.List.{List, [], ◌∷◌, ◌++◌, append-nil}
-use mathlib.Core.Bool.{Bool, true, false, ◌&&◌, ◌||◌, not, false≢true}
+use mathlib.Core.Bool.{Bool, true, false, ◌&&◌, ◌||◌, not, false≢true, or_comm}
 use Rattle.std.specs.Prelude.{Option, None, Some}
 use lib.Dec.{eqb}
 use lib.Seq.{append_snoc}
@@ -13,6 +13,7 @@ use Rattle.accept.proofs.Bools.{or_none_lem}
 use Rattle.hir_def.specs.Finds.{select}
 use Rattle.hir_def.specs.Items.{same_item, module_item}
 use Rattle.hir_def.specs.declared.Item.{Item}
+use Rattle.hir_def.proofs.Same.{same_item_lem, same_self}
 use Rattle.find_path_choice.specs.Choices.{Choice}
 use Rattle.find_path_spec.specs.declared.FindPathCtx.{FindPathCtx}
 use Rattle.find_path_choice.specs.Choices.{nothing}
@@ -20,9 +21,8 @@ use Rattle.find_path_spec.specs.Walk.{Level, has, visited, start_from, leads_to,
 use Rattle.find_path_spec.specs.Local.{LocalSearch, offer_entry, importable_name, location, each_location, calculate_best_path_local, or_local}
 use Rattle.find_path_spec.specs.Local.{find_path_for_module_local}
 use Rattle.find_path_spec.specs.Search.{local_to, search_local, best_local}
-use Rattle.find_path_spec.specs.laws.Visited.{Pairs, no_pairs, insert, remove, remove_all, Handed, SetSearch, callback, worklist, best_in_set, or_in_set}
-use Rattle.find_path_spec.specs.laws.Visited.{module_in_set, set_to, search_in_set, OneSet, Enough}
-use Rattle.read_back.proofs.Exact.{same_item_lem, same_self}
+use Rattle.find_path_spec.specs.laws.Visited.{Pairs, no_pairs, insert, remove, remove_all, Handed, SetSearch, callback, worklist}
+use Rattle.find_path_spec.specs.laws.Visited.{best_in_set, or_in_set, module_in_set, set_to, search_in_set, OneSet, Enough}
 use Rattle.find_path_spec.proofs.laws.Walks.{has_snoc, locations_more}
 
 -- tests
@@ -53,12 +53,6 @@ bool_back : (a h x : Bool) → (a ≡ true → h ≡ true → x ≡ false) → n
 bool_back false h x f = refl
 bool_back true false x f = refl
 bool_back true true x f = sym (f refl refl)
-
-or_comm : (a b : Bool) → a || b ≡ b || a
-or_comm true true = refl
-or_comm true false = refl
-or_comm false true = refl
-or_comm false false = refl
 
 or_split : (a b c : Bool) → a || b ≡ true → (a ≡ true → c ≡ false) → (b ≡ true → c ≡ false) → c ≡ false
 or_split true b c e f g = f refl

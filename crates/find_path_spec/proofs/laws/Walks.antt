@@ -3,7 +3,7 @@ use mathlib.Core.Path.{◌≡◌, refl, ap, sym, ◌∙◌}
 use Prim.Native.Nat.{ℕ, zero, suc, ◌+◌, ◌≤◌}
 use native.Mathlib.Omega.{arith}
 use mathlib.Core.List.{List, [], ◌∷◌, ◌++◌}
-use mathlib.Core.Bool.{Bool, true, false, ◌&&◌, ◌||◌, not, or-false, or_assoc, true≢false}
+use mathlib.Core.Bool.{Bool, true, false, ◌&&◌, ◌||◌, not, or-false, or_assoc, true≢false, or-true}
 use lib.Dec.{eqb}
 use lib.ListN.{length, length-append, length-map}
 use borrow.Author.Tests.{eq-eqb, ne_eqb, eqb-true, eqb-false}
@@ -96,15 +96,11 @@ module _ (d : List ℕ) (m : ℕ) (new : has d m ≡ false) (p : Scope → Bool)
 
   sum_own : (e : Scope) (es : List Scope) → Sum es → e.owner ≡ m → Sum (e ∷ es)
   sum_own e es ih q =
-      let in' : has (d ++ (m ∷ [])) e.owner ≡ true = has_snoc d m e.owner ∙ rw (eq-eqb e.owner m q) (or_true' (has d e.owner)) in
+      let in' : has (d ++ (m ∷ [])) e.owner ≡ true = has_snoc d m e.owner ∙ rw (eq-eqb e.owner m q) (or-true (has d e.owner)) in
       let out : has d e.owner ≡ false = ap (has d) q ∙ new in
       let s = select_short_one e es in
       rw (select_miss (λ z. not (has (d ++ (m ∷ [])) z.owner)) e es (rw in'), select_hit (λ z. not (has d z.owner)) e es (rw out)) (omega arith)
     where
-      or_true' : (a : Bool) → a || true ≡ true
-      or_true' true = refl
-      or_true' false = refl
-
       select_short_one : (e : Scope) (es : List Scope)
           → length (select (λ e. eqb e.owner m && p e) (e ∷ es)) ≤ suc (length (select (λ e. eqb e.owner m && p e) es))
       select_short_one e es = one (eqb e.owner m && p e) refl

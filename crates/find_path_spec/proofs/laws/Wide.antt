@@ -13,8 +13,8 @@ use Rattle.snapshot.specs.Records.{Snapshot, Scope}
 use Rattle.hir_def.specs.Items.{same_item, module_item}
 use Rattle.find_path_choice.specs.Choices.{Choice}
 use Rattle.find_path_spec.specs.declared.FindPathCtx.{FindPathCtx}
-use Rattle.find_path_choice.specs.Choices.{via_local, step_by, is_prelude, name_len, nothing, path_len, shorter_if, length_left, compare_bool, and_then}
-use Rattle.find_path_choice.specs.Choices.{compare_prelude, taken, better, extended, push}
+use Rattle.find_path_choice.specs.Choices.{via_local, step_by, is_prelude, name_len, nothing, path_len, shorter_if}
+use Rattle.find_path_choice.specs.Choices.{length_left, compare_bool, and_then, compare_prelude, taken, better, extended, push}
 use Rattle.find_path_spec.specs.Walk.{Level, has, visited}
 use Rattle.find_path_spec.specs.Rules.{module_rules}
 use Rattle.find_path_spec.specs.Local.{offer_entry, importable_name, location, each_location, calculate_best_path_local, or_local}

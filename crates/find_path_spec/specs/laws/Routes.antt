@@ -13,9 +13,8 @@ use Rattle.hir_def.specs.declared.Item.{Item}
 use Rattle.find_path_spec.specs.declared.FindPathCtx.{FindPathCtx}
 use Rattle.find_path_spec.specs.declared.Query.{Query}
 use Rattle.find_path_spec.specs.declared.Report.{Report}
-use Rattle.find_path_choice.specs.Choices.{plain_path, self_path, super_path, crate_path, via_builtin, via_scope, via_prelude, via_extern, via_keyword}
-use Rattle.find_path_choice.specs.Choices.{via_variant}
-use Rattle.find_path_choice.specs.Choices.{via_local, via_import, step_by}
+use Rattle.find_path_choice.specs.Choices.{plain_path, self_path, super_path, crate_path, via_builtin, via_scope}
+use Rattle.find_path_choice.specs.Choices.{via_prelude, via_extern, via_keyword, via_variant, via_local, via_import, step_by}
 use Rattle.find_path_spec.specs.Rules.{by_crate, bit, prefix_path_kind, context_of, may_be_in_scope, find_in_scope, find_in_prelude, extern_kind}
 use Rattle.find_path_spec.specs.Local.{importable_name}
 use Rattle.find_path_spec.specs.Charged.{is_at, variant_of}

@@ -68,7 +68,8 @@ module _ (W A : List ℕ) (l : Layout) (r : Reads W A l) (c m : ℕ) (p : Part) 
       let g : k ≤ l.externs = omega (arith, q) in
       let z : k + (l.externs - k) ≡ l.externs = omega (arith, g) in (
         g,
-        ap upto (sym z) ∙ back_skip (is_extern c m) at (l.externs - k) k (λ i u v. outside i (omega (arith, z, v)) (λ a o. omega (arith, q, u, o, z, v))),
+        ap upto (sym z)
+            ∙ back_skip (is_extern c m) at (l.externs - k) k (λ i u v. outside i (omega (arith, z, v)) (λ a o. omega (arith, q, u, o, z, v))),
       )
 
   pub extern_low : {k : ℕ} → k ≤ p.low → k ≤ l.externs → None ≡ upto k

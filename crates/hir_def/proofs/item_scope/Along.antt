@@ -29,7 +29,8 @@ pub module_within : (W A : List ℕ) (l : Layout) (m : ℕ) (y : Scope) → (y.o
 module_within W A l m y n = sym (and_no _ (ne_eqb _ _ n))
 
 -- a module entry that an enumeration met
-module _ (W A : List ℕ) (l : Layout) (m : ℕ) {k j h : ℕ} (x : Meets (is_module_entry (snap_of W A l) m) scope_at scope_size W (scope_base l) l.scopes k j h)
+module _ (W A : List ℕ) (l : Layout) (m : ℕ) {k j h : ℕ}
+    (x : Meets (is_module_entry (snap_of W A l) m) scope_at scope_size W (scope_base l) l.scopes k j h)
   where
     -- it is the module's
     pub met_follows : Follows (key_of W l Modules) m (j + 1)

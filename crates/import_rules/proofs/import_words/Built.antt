@@ -10,9 +10,9 @@ use Rattle.snapshot.specs.Records.{Snapshot}
 use Rattle.check_rules.specs.Verdict.{accept, verdict}
 use Rattle.hir_def.specs.Finds.{select}
 use Rattle.hir_def.proofs.Found.{each_select}
-use Rattle.find_path_spec.proofs.laws.Crates.{each_append}
 use Rattle.hir_def.specs.ImportMap.{import_info_for}
 use Rattle.hir_def.specs.declared.Item.{Item}
+use Rattle.hir_def.proofs.Every.{each_append}
 use Rattle.edit_rules.specs.Entries.{scopes_end}
 use Rattle.import_rules.specs.Collect.{collected}
 use Rattle.import_rules.specs.import_words.Words.{placed_from, others_than, is_others, replaced, words_with, snapshot_with, is_of, unplaced}

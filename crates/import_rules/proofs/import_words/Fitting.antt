@@ -17,7 +17,7 @@ use Rattle.accept.proofs.Valid.{accepted_valid}
 use Rattle.edit_rules.proofs.scope_edits.Lists.{each_both}
 use Rattle.hir_def.specs.Finds.{select}
 use Rattle.hir_def.proofs.Found.{each_select}
-use Rattle.find_path_spec.proofs.laws.Crates.{each_append}
+use Rattle.hir_def.proofs.Every.{each_append, each_map_select}
 use Rattle.import_rules.specs.Collect.{insert_by, sort_into, entry_before, is_public_in, entries_of, modules_from, is_member_of, member_ns}
 use Rattle.import_rules.specs.Collect.{member_import}
 use Rattle.import_rules.specs.Collect.{entry_import, imports_of, imports_in, imports_over, collected}
@@ -40,15 +40,6 @@ each_sort before {ys = ys} r (more {x = x} p ps) = each_sort before {ys = insert
 pub each_entries : {P : Scope → Type 0} (s : Snapshot) (m : ℕ) → Each P s.scopes → Each P (entries_of s m)
 unfolding entries_of
 each_entries s m h = each_sort (entry_before s) none (each_select (is_public_in m) h)
-
-each_map_select : {A B : Type 0} {P : A → Type 0} {Q : B → Type 0} (p : A → Bool) (f : A → B) {xs : List A}
-    → ((x : A) → P x → p x ≡ true → Q (f x)) → Each P xs → Each Q (map f (select p xs))
-unfolding select
-each_map_select p f h none = none
-each_map_select p f h (more {x = x} q qs) =
-    by_test (p x)
-    (λ t. rw (t, select) (more (h x q t) (each_map_select p f h qs)))
-    (λ t. rw (t, select) (each_map_select p f h qs))
 
 -- an entry and a member of an accepted snapshot
 

@@ -1,13 +1,12 @@
 -- Accepted words with other import records in place of their own are accepted, as the snapshot with those imports.
 use Prim.Native.Nat.{ℕ, ◌+◌, ◌*◌, ◌-◌, ◌≤◌, ◌<◌}
 use mathlib.Core.Path.{◌≡◌, refl, sym, ◌∙◌, ap, ap₂, subst}
-use mathlib.Core.List.{List, [], ◌∷◌, ◌++◌, map, map-id, append_assoc}
+use mathlib.Core.List.{List, [], ◌∷◌, ◌++◌, map, append_assoc}
 use mathlib.Core.Bool.{false}
 use native.Mathlib.Omega.{arith}
-use native.Mathlib.Decide.{dec_le}
 use borrow.Author.Tests.{ltb-true}
 use lib.ListN.{length, get_or, take, drop}
-use lib.Seq.{ext_get_or, length-take-le, take_at, drop_at}
+use lib.Seq.{length-take-le, take_at, drop_at}
 use Rattle.snapshot.specs.Lists.{any}
 use Rattle.snapshot.specs.Words.{kind_of}
 use Rattle.snapshot.specs.Sizes.{import_size}
@@ -99,26 +98,6 @@ module _ (W : List ℕ) (u : Snapshot) (acc : verdict W ≡ accept u) where
         (sym (words_length ys)) i
         ∙ cut_after W (scopes_end W) (import_size * length u.imports) imports_within i
 
-  -- between scopes and externs stand the words of the imports, and nothing else
-  pub own_words_lem : words_with W u u.imports ≡ W
-  own_words_lem =
-      ext_get_or 0 (words_with W u u.imports) W (let l = with_length u.imports in omega arith)
-      (λ i h. elim (dec_le (scopes_end W) i) [
-        | yes a ↦
-            elim (dec_le (scopes_end W + import_size * length u.imports) i) [
-              | yes b ↦
-                  let j = i - (scopes_end W + import_size * length u.imports) in
-                  let q : i ≡ scopes_end W + import_size * length u.imports + j = omega arith in
-                  ap (λ n. get_or (words_with W u u.imports) n 0) q ∙ with_after u.imports j ∙ ap (λ n. get_or W n 0) (sym q)
-              | no b ↦
-                  let j = i - scopes_end W in
-                  let q : i ≡ scopes_end W + j = omega arith in
-                  ap (λ n. get_or (words_with W u u.imports) n 0) q ∙ with_at u.imports j (omega arith) ∙ sym (run.words j (omega arith))
-                  ∙ ap (λ n. get_or W n 0) (sym q)
-            ]
-        | no a ↦ with_before u.imports i (omega arith)
-      ])
-
   -- The words of imports stand as they were written, between what stood before and behind the import records.
   pub put_words : (c : ℕ) (xs : List Import) → words_with W u (replaced u c xs)
       ≡ take (scopes_end W) W ++ (words_of (others_than c u.imports) ++ (words_of xs ++ drop (scopes_end W + import_size * length u.imports) W))
@@ -207,18 +186,6 @@ module _ (W : List ℕ) (u : Snapshot) (acc : verdict W ≡ accept u) where
         ∙ run_lower X run.fuel ahead 11 over.before (with_more start placed)
         (with_lists u u.scopes placed (shifted u.externs)) (omega arith) (omega arith) roomy after
 
-  -- the imports of an accepted snapshot fit, and stand where their places say
+  -- the imports of an accepted snapshot fit
   pub own_fits : Each (Fits u) u.imports
   own_fits = subst (λ (s : Snapshot). Each (Fits s) u.imports) (sym start_base) run.fits
-
-  pub own_places : placed_from (scopes_end W) u.imports ≡ u.imports
-  own_places = run.places
-
-  -- so nothing changes where they are put in place of themselves
-  pub own_snapshot : snapshot_with W u u.imports ≡ u
-  unfolding snapshot_with
-  own_snapshot =
-      let k = import_size * length u.imports in
-      let back : (n : ℕ) → n + k - k ≡ n = λ n. omega arith in
-      let f : ◌≡◌ {A = ℕ → ℕ} (λ n. n + k - k) (λ n. n) = λ i n. back n i in
-      ap₂ (with_lists u u.scopes) own_places (ap (λ g. map (moved_extern g) u.externs) f ∙ map-id u.externs)

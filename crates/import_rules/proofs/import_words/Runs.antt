@@ -1,11 +1,9 @@
 -- The import records of accepted words are the words of the snapshot's imports; the records after them do not go by imports.
-use Prim.Native.Nat.{ℕ, zero, suc, ◌+◌, ◌*◌, ◌-◌, ◌/◌, ◌%◌, ◌≤◌, ◌<◌}
+use Prim.Native.Nat.{ℕ, zero, suc, ◌+◌, ◌*◌, ◌≤◌, ◌<◌}
 use mathlib.Core.Path.{◌≡◌, refl, sym, ◌∙◌, ap, ap₂}
 use mathlib.Core.List.{List, [], ◌∷◌, append-nil}
 use mathlib.Core.Bool.{true, false}
 use native.Mathlib.Omega.{arith}
-use native.Mathlib.Nat.{add-zero}
-use native.Mathlib.Decide.{dec_le}
 use borrow.Author.Tests.{eqb-true, eqb-false, ltb-true, ltb-false, ne_eqb}
 use lib.Dec.{eqb, ltb}
 use lib.ListN.{length, get_or}
@@ -23,23 +21,8 @@ use Rattle.accept.proofs.Folds.{records_end}
 use Rattle.edit_rules.specs.Entries.{with_lists}
 use Rattle.edit_rules.proofs.scope_edits.Stepped.{follows_rise, taking, taken_step, taking_within}
 use Rattle.edit_rules.proofs.scope_edits.Folded.{finish_accepts, next_record, records_take, records_after}
-use Rattle.import_rules.specs.Collect.{import_words, words_of}
-use Rattle.import_rules.specs.import_words.Words.{Fits, placed_from}
-use Rattle.import_rules.proofs.import_words.Taken.{import_kind, import_arguments, words_first, words_later, with_more, more_next}
-
--- the words of the import record at a place are those of its import
-read_words : (W : List ℕ) (a : ℕ) → kind_of (get_or W a 0) ≡ 10 → (i : ℕ) → i < import_size
-    → get_or W (a + i) 0 ≡ get_or (import_words (import_at W a)) i 0
-read_words W a e zero h =
-    let f : get_or W a 0 / 268435456 ≡ 10 = e in
-    let g : get_or W a 0 ≡ 0xA0000000 + get_or W a 0 % 268435456 = omega arith in
-    ap (λ j. get_or W j 0) (add-zero a) ∙ g
-read_words W a e (suc zero) h = refl
-read_words W a e (suc (suc zero)) h = refl
-read_words W a e (suc (suc (suc zero))) h = refl
-read_words W a e (suc (suc (suc (suc zero)))) h = refl
-read_words W a e (suc (suc (suc (suc (suc zero))))) h = refl
-read_words W a e (suc (suc (suc (suc (suc (suc i)))))) h = absurd (omega arith)
+use Rattle.import_rules.specs.import_words.Words.{Fits}
+use Rattle.import_rules.proofs.import_words.Taken.{import_kind, import_arguments, with_more, more_next}
 
 -- the fold over the import records from a place on
 pub record Run (W : List ℕ) (u : Snapshot) (a : ℕ) (s : Snapshot) (xs : List Import) : Type 0 where
@@ -48,8 +31,6 @@ pub record Run (W : List ℕ) (u : Snapshot) (a : ℕ) (s : Snapshot) (xs : List
   pub within : a + import_size * length xs ≤ length W
   pub rest : records fuel W (a + import_size * length xs) 11 (with_more s xs) ≡ accept u
   pub fits : Each (Fits s) xs
-  pub words : (i : ℕ) → i < import_size * length xs → get_or W (a + i) 0 ≡ get_or (words_of xs) i 0
-  pub places : placed_from a xs ≡ xs
 
 import_took : (s t : Snapshot) (x : Import) → import_step s x ≡ on t
     → Taken (import_range x) (import_defined (counts_of s) x) false (ns_placed s x.ns x.definition) true (add_import s x) t
@@ -60,7 +41,6 @@ module _ (W : List ℕ) (u : Snapshot) where
   -- no import record stands there
   run_none : (n a : ℕ) (s : Snapshot) → a ≤ length W → length W ≤ n + a → (a < length W → 11 ≤ kind_of (get_or W a 0)) → records n W a 10 s ≡ accept u
       → Run W u a s []
-  unfolding placed_from
   run_none n a s within enough late e =
       let to : a + import_size * 0 ≡ a = omega arith in
       record {
@@ -70,14 +50,11 @@ module _ (W : List ℕ) (u : Snapshot) where
         rest = ap₂ (λ j l. records n W j 11 (with_lists s s.scopes l s.externs)) to (append-nil s.imports)
             ∙ records_after W n a 10 11 s u late e;
         fits = none;
-        words = λ i h. absurd (omega arith);
-        places = refl;
       }
 
   -- one stands there
   run_more : (a : ℕ) (s : Snapshot) (xs : List Import) → kind_of (get_or W a 0) ≡ 10 → Fits s (import_at W a)
       → Run W u (a + import_size) (add_import s (import_at W a)) xs → Run W u a s (import_at W a ∷ xs)
-  unfolding placed_from
   run_more a s xs k f r =
       let to : a + import_size + import_size * length xs ≡ a + import_size * suc (length xs) = omega arith in
       let m = r.enough in
@@ -88,15 +65,6 @@ module _ (W : List ℕ) (u : Snapshot) where
         within = omega arith;
         rest = sym (ap₂ (λ j t. records r.fuel W j 11 t) to (more_next s (import_at W a) xs)) ∙ r.rest;
         fits = more f r.fits;
-        words = λ i h. elim (dec_le import_size i) [
-          | yes l ↦
-              let q : a + i ≡ a + import_size + (i - import_size) = omega arith in
-              let p : import_size + (i - import_size) ≡ i = omega arith in
-              ap (λ j. get_or W j 0) q ∙ r.words (i - import_size) (omega arith) ∙ sym (words_later (import_at W a) xs (i - import_size))
-              ∙ ap (λ j. get_or (words_of (import_at W a ∷ xs)) j 0) p
-          | no l ↦ read_words W a k i (omega arith) ∙ sym (words_first (import_at W a) xs i (omega arith))
-        ];
-        places = ap (λ l. import_at W a ∷ l) r.places;
       }
 
   pub old_imports : (n a : ℕ) (s : Snapshot) → a ≤ length W → length W ≤ n + a → records n W a 10 s ≡ accept u → (xs : List Import) × Run W u a s xs

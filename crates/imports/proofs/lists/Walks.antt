@@ -471,11 +471,7 @@ module _ {W A D : List ℕ} {l : Layout} {n marks to : ℕ} (th : Threaded W A l
   root_of_lem c {own} eo er = er ∙ ap (root_of (snap_of W D l)) eo ∙ ap (λ s. root_of s (own_map s c)) cleared_snap
 
   pub root_inside : {own m : ℕ} → own < l.maps → m ≡ root_of (snap_of W D l) own → m < l.modules
-  root_inside {own} h er =
-      let r = cleared_reads.tables in
-      let a = root_read W D l r own h in
-      let b = r.rooted own h in
-      omega arith
+  root_inside {own} h er = omega (arith, cleared_reads.tables, root_read W D l cleared_reads.tables own h, cleared_reads.tables.rooted own h)
 
 pub walking_start : {W A : List ℕ} {l : Layout} {n : ℕ} {B C : List ℕ} {m base marks to : ℕ} → Threaded W A l n → marks ≡ marks_base l
     → to ≡ marks + 512 → Cleared A B marks to → length B ≡ length A

@@ -1,13 +1,12 @@
 -- Imports written to a target, or only counted, one list after the other.
 use Prim.Native.Nat.{ℕ, suc, ◌+◌, ◌-◌, ◌*◌, ◌^◌, ◌≤◌, ◌<◌}
 use mathlib.Core.Path.{◌≡◌, refl, sym, ◌∙◌, ap, ap₂, subst}
-use mathlib.Core.List.{List, [], ◌∷◌, ◌++◌, map, append_assoc}
-use mathlib.Core.Bool.{Bool, true, false, ◌&&◌}
+use mathlib.Core.List.{List, [], ◌∷◌, ◌++◌, map}
+use mathlib.Core.Bool.{Bool, true, false, ◌&&◌, and_comm}
 use native.Mathlib.Omega.{arith}
 use borrow.Author.Tests.{eq-eqb, ne_eqb}
 use lib.Dec.{eqb}
-use lib.ListN.{length, get_or, take, drop, set, length-append, length-map}
-use lib.Seq.{sets-eq}
+use lib.ListN.{length, get_or, set, length-append, length-map}
 use Rattle.snapshot.specs.Sizes.{import_size, member_size, scope_size}
 use Rattle.snapshot.specs.Lists.{rows}
 use Rattle.snapshot.specs.Records.{Snapshot, Scope, Import, Member, scope_at, member_at}
@@ -61,21 +60,6 @@ module _ {write : Bool} {at : ℕ} {xs ys left : List Import} {T : List ℕ} (sp
 
 pub wrote_size : {write : Bool} {at r : ℕ} {xs : List Import} {T U : List ℕ} → Wrote write at xs T U r → length U ≡ length T
 wrote_size {write} {at} {r} {xs} {T} w = ap length w.same ∙ written_length write at (words_of xs) T
-
--- what the target holds after imports were written, and after they were only counted
-
-pub wrote_words : {at r : ℕ} {xs : List Import} {T U : List ℕ} → Wrote true at xs T U r → Space true at xs T
-    → U ≡ take at T ++ (words_of xs ++ drop (at + import_size * length xs) T)
-unfolding written
-wrote_words {at} {r} {xs} {T} w s =
-    let n : length (words_of xs) ≡ import_size * length xs = words_length xs in
-    let h = s.room refl in
-    w.same ∙ sets-eq (words_of xs) T at (omega arith) ∙ append_assoc (take at T) (words_of xs) (drop (at + length (words_of xs)) T)
-    ∙ ap (λ k. take at T ++ (words_of xs ++ drop (at + k) T)) n
-
-pub wrote_counted : {at r : ℕ} {xs : List Import} {T U : List ℕ} → Wrote false at xs T U r → U ≡ T
-unfolding written
-wrote_counted w = w.same
 
 -- of equal lists
 pub space_as : {write : Bool} {at : ℕ} {xs ys : List Import} {T : List ℕ} → Space write at xs T → xs ≡ ys → Space write at ys T
@@ -177,15 +161,9 @@ kept_append c e x xs = by (is_kept x)
 
 -- the members of a parent
 
-and_swap : (a b : Bool) → (a && b) ≡ (b && a)
-and_swap true true = refl
-and_swap true false = refl
-and_swap false true = refl
-and_swap false false = refl
-
 member_of_lem : (d : ℕ) (xs : List Member) → select is_kept (select (λ x. eqb x.parent d) xs) ≡ select (is_member_of d) xs
 member_of_lem d xs =
-    let e : (λ (x : Member). is_kept x && eqb x.parent d) ≡ is_member_of d = λ i x. and_swap (is_kept x) (eqb x.parent d) i in
+    let e : (λ (x : Member). is_kept x && eqb x.parent d) ≡ is_member_of d = λ i x. and_comm (is_kept x) (eqb x.parent d) i in
     select_both is_kept (λ x. eqb x.parent d) xs ∙ ap (λ p. select p xs) e
 
 abbrev pub parent_of : List ℕ → Layout → ℕ → ℕ
@@ -342,19 +320,12 @@ module _ (s : Snapshot) (c : ℕ) (members : length s.members ≤ 3276) where
   in_few : (es : List Scope) → length (imports_in s c es) ≤ 3277 * length es
   unfolding imports_in
   in_few [] = omega arith
-  in_few (e ∷ es) =
-      let a = length-append (imports_of s c e) (imports_in s c es) in
-      let b = of_few e in
-      let d = in_few es in
-      omega arith
+  in_few (e ∷ es) = omega (arith, length-append (imports_of s c e) (imports_in s c es), of_few e, in_few es)
 
   module _ (scopes : length s.scopes ≤ 2048) where
     entries_few : (m : ℕ) → length (entries_of s m) ≤ 2048
     unfolding entries_of
-    entries_few m =
-        let a = length_sort (entry_before s) [] (select (is_public_in m) s.scopes) in
-        let b = select_short (is_public_in m) s.scopes in
-        omega arith
+    entries_few m = omega (arith, length_sort (entry_before s) [] (select (is_public_in m) s.scopes), select_short (is_public_in m) s.scopes)
 
     pub over_few : (ms : List ℕ) → length (imports_over s c ms) ≤ 6711296 * length ms
     unfolding imports_over

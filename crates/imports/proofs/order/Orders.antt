@@ -146,9 +146,6 @@ by_key {C} a b m n h f g = by (text_before a b) refl (text_before b a) refl (ltb
     by false e false e' true e'' k = g e' (ltb-true m n e'')
     by false e false e' false e'' k = never_false k
 
-text_of_two : (a b : List ℕ) → text_before a b ≡ true → text_before b a ≡ false
-text_of_two a b h = by_test (text_before b a) (λ t. never_false (sym (text_never a) ∙ text_through a b a h t)) (λ t. t)
-
 -- neither of a and b stands before the other, nor of b and c
 text_ties : (a b c : List ℕ) → text_before b a ≡ false → text_before c b ≡ false → text_before c a ≡ false
 text_ties a b c p q = by_test (text_before c a) (λ t. never_false (sym p ∙ text_between c b a t q)) (λ t. t)

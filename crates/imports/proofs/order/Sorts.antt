@@ -2,6 +2,7 @@
 use mathlib.Core.Path.{◌≡◌, refl, sym, ◌∙◌, ap}
 use mathlib.Core.List.{List, [], ◌∷◌, ◌++◌}
 use mathlib.Core.Bool.{Bool, true, false, ◌&&◌, not, true≢false}
+use Rattle.std.proofs.lemmas.Bool.{and_from}
 use borrow.Author.Tests.{not-true}
 use Rattle.check_records.proofs.record_rules.Judged.{and_left, and_right}
 use Rattle.snapshot.specs.Lists.{all}
@@ -93,29 +94,26 @@ ordered : {A : Type 0} → (A → A → Bool) → List A → Bool
 ordered before [] = true
 ordered before (y ∷ ys) = all (λ z. not (before z y)) ys && ordered before ys
 
-and_true : (a b : Bool) → a ≡ true → b ≡ true → (a && b) ≡ true
-and_true a b p q = rw (p, q)
-
 all_map : {A : Type 0} (p q : A → Bool) (ys : List A) → ((z : A) → p z ≡ true → q z ≡ true) → all p ys ≡ true → all q ys ≡ true
 unfolding all
 all_map p q [] f h = refl
-all_map p q (y ∷ ys) f h = and_true (q y) (all q ys) (f y (and_left (p y) (all p ys) h)) (all_map p q ys f (and_right (p y) (all p ys) h))
+all_map p q (y ∷ ys) f h = and_from (q y) (all q ys) (f y (and_left (p y) (all p ys) h)) (all_map p q ys f (and_right (p y) (all p ys) h))
 
 module _ {A : Type 0} (before : A → A → Bool) (o : Order before) where
   all_insert : (q : A → Bool) (x : A) (ys : List A) → q x ≡ true → all q ys ≡ true → all q (insert_by before x ys) ≡ true
   unfolding all insert_by
-  all_insert q x [] p h = and_true (q x) true p refl
+  all_insert q x [] p h = and_from (q x) true p refl
   all_insert q x (y ∷ ys) p h =
       by_test (before x y)
-      (λ t. ap (all q) (insert_yes before x y ys t) ∙ and_true (q x) (all q (y ∷ ys)) p h)
-      (λ t. ap (all q) (insert_no before x y ys t) ∙ and_true (q y) (all q (insert_by before x ys)) (and_left (q y) (all q ys) h)
+      (λ t. ap (all q) (insert_yes before x y ys t) ∙ and_from (q x) (all q (y ∷ ys)) p h)
+      (λ t. ap (all q) (insert_no before x y ys t) ∙ and_from (q y) (all q (insert_by before x ys)) (and_left (q y) (all q ys) h)
       (all_insert q x ys p (and_right (q y) (all q ys) h)))
 
   -- what stands before the first of an ordered list stands before all of it
   before_all : (x y : A) (ys : List A) → before x y ≡ true → ordered before (y ∷ ys) ≡ true → all (before x) (y ∷ ys) ≡ true
   unfolding all ordered
   before_all x y ys h g =
-      and_true (before x y) (all (before x) ys) h
+      and_from (before x y) (all (before x) ys) h
       (all_map (λ z. not (before z y)) (before x) ys
       (λ z p. by_test (before x z) (λ t. t) (λ t. absurd (true≢false (sym (o.between x z y h t) ∙ not-true (before z y) p))))
       (and_left (all (λ z. not (before z y)) ys) (ordered before ys) g))
@@ -126,11 +124,11 @@ module _ {A : Type 0} (before : A → A → Bool) (o : Order before) where
   ordered_insert x (y ∷ ys) h =
       by_test (before x y)
       (λ t. ap (ordered before) (insert_yes before x y ys t)
-      ∙ and_true (all (λ z. not (before z x)) (y ∷ ys)) (ordered before (y ∷ ys))
+      ∙ and_from (all (λ z. not (before z x)) (y ∷ ys)) (ordered before (y ∷ ys))
       (all_map (before x) (λ z. not (before z x)) (y ∷ ys)
       (λ z p. by_test (before z x) (λ u. absurd (true≢false (sym (o.through x z x p u) ∙ o.never x))) (λ u. ap not u)) (before_all x y ys t h)) h)
       (λ t. ap (ordered before) (insert_no before x y ys t)
-      ∙ and_true (all (λ z. not (before z y)) (insert_by before x ys)) (ordered before (insert_by before x ys))
+      ∙ and_from (all (λ z. not (before z y)) (insert_by before x ys)) (ordered before (insert_by before x ys))
       (all_insert (λ z. not (before z y)) x ys (ap not t) (and_left (all (λ z. not (before z y)) ys) (ordered before ys) h))
       (ordered_insert x ys (and_right (all (λ z. not (before z y)) ys) (ordered before ys) h)))
 
@@ -146,7 +144,7 @@ module _ {A : Type 0} (before : A → A → Bool) (o : Order before) where
     all_select q (y ∷ ys) h =
         let rest = all_select q ys (and_right (q y) (all q ys) h) in
         by_test (p y)
-        (λ t. ap (all q) (select_hit p y ys t) ∙ and_true (q y) (all q (select p ys)) (and_left (q y) (all q ys) h) rest)
+        (λ t. ap (all q) (select_hit p y ys t) ∙ and_from (q y) (all q (select p ys)) (and_left (q y) (all q ys) h) rest)
         (λ t. ap (all q) (select_miss p y ys t) ∙ rest)
 
     select_in : (x : A) (ys : List A) → p x ≡ true → ordered before ys ≡ true → select p (insert_by before x ys) ≡ insert_by before x (select p ys)

@@ -28,10 +28,7 @@ length_insert {A} before x (y ∷ ys) = by (before x y) (length_insert before x 
 pub length_sort : {A : Type 0} (before : A → A → Bool) (ys xs : List A) → length (sort_into before ys xs) ≡ length ys + length xs
 unfolding sort_into
 length_sort before ys [] = omega arith
-length_sort before ys (x ∷ xs) =
-    let p = length_sort before (insert_by before x ys) xs in
-    let q = length_insert before x ys in
-    omega arith
+length_sort before ys (x ∷ xs) = omega (arith, length_sort before (insert_by before x ys) xs, length_insert before x ys)
 
 pub length_piled : (s : Snapshot) (es : List Scope) (ws : List ℕ) → length (piled s es ws) ≤ length es + length ws
 unfolding piled
@@ -92,10 +89,7 @@ entries_few m s seen t =
 -- a visit leaves one turn less to be taken
 pub room : (n m : ℕ) (s : Snapshot) (seen ws : List ℕ) → suc (length ws) + waiting seen s.scopes ≤ suc n → any (eqb m) seen ≡ false
     → length (piled s (entries_of s m) ws) + waiting (m ∷ seen) s.scopes ≤ n
-room n m s seen ws h t =
-    let a = length_piled s (entries_of s m) ws in
-    let b = entries_few m s seen t in
-    omega arith
+room n m s seen ws h t = omega (arith, length_piled s (entries_of s m) ws, entries_few m s seen t)
 
 -- from any place on
 pub visits_same : (n k : ℕ) (s : Snapshot) (seen ws : List ℕ) → length ws + waiting seen s.scopes ≤ n → n ≤ k

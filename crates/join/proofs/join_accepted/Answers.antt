@@ -9,28 +9,16 @@ put_kinds-count-requires c = let f = c.number-n.ensures in
     record { whole = wholes c.requires f; space = count_space c.requires f _ }
 
 pub overflow_add-l : goal.overflow_add-l
-overflow_add-l c =
-    let f = c.number-n.ensures in
-    let q = (sums c.requires f).names in
-    omega arith
+overflow_add-l c = omega (arith, (sums c.requires c.number-n.ensures).names)
 
 pub overflow_add-l-2 : goal.overflow_add-l-2
-overflow_add-l-2 c =
-    let f = c.number-n.ensures in
-    let q = (sums c.requires f).crates in
-    omega arith
+overflow_add-l-2 c = omega (arith, (sums c.requires c.number-n.ensures).crates)
 
 pub overflow_add-l-3 : goal.overflow_add-l-3
-overflow_add-l-3 c =
-    let f = c.number-n.ensures in
-    let q = (sums c.requires f).modules in
-    omega arith
+overflow_add-l-3 c = omega (arith, (sums c.requires c.number-n.ensures).modules)
 
 pub overflow_add-l-4 : goal.overflow_add-l-4
-overflow_add-l-4 c =
-    let f = c.number-n.ensures in
-    let q = (sums c.requires f).definitions in
-    omega arith
+overflow_add-l-4 c = omega (arith, (sums c.requires c.number-n.ensures).definitions)
 
 pub returns-then-not-fits : goal.returns-then-not-fits
 returns-then-not-fits c =

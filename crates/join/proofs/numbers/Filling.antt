@@ -144,9 +144,4 @@ module _ {R : Type 0} (same : R → R → Bool) (d : R) (xs ys : List R) where
         )
 
     pub fresh_few : (A B : List ℕ) (n fresh : ℕ) → Numbering A B n fresh → fresh ≤ n
-    fresh_few A B n fresh h =
-        let u = h.upto in
-        let e = h.new in
-        let a = select_few is_fresh (take n ys) in
-        let b = length-take-le n ys u in
-        omega arith
+    fresh_few A B n fresh h = omega (arith, h.upto, h.new, select_few is_fresh (take n ys), length-take-le n ys h.upto)

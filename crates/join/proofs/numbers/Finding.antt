@@ -5,7 +5,7 @@ use Rattle.std.specs.Prelude.{Option}
 use Prim.Native.Nat.{ℕ, zero, suc, ◌+◌, ◌*◌, ◌-◌, ◌≤◌, ◌<◌}
 use mathlib.Core.Path.{◌≡◌, refl, sym, ◌∙◌, ap, subst}
 use mathlib.Core.List.{List, [], ◌∷◌}
-use mathlib.Core.Bool.{Bool, true, false, ◌||◌, false≢true}
+use mathlib.Core.Bool.{Bool, true, false, false≢true, or-false}
 use native.Mathlib.Omega.{arith}
 use native.Mathlib.Nat.{add-zero, sub-zero}
 use lib.ListN.{length, get_or, take, drop}
@@ -17,12 +17,12 @@ use Rattle.snapshot.specs.Records.{Name, Definition, name_at, definition_at}
 use Rattle.snapshot.specs.Layouts.{records_of}
 use Rattle.snapshot.proofs.Laws.{rows_next, rows_none, rows_whole}
 use Rattle.check_rules.specs.Tests.{same_name}
+use Rattle.check_rules.proofs.Names.{name_equal}
 use Rattle.accept.proofs.Accepted.{by_test}
 use Rattle.accept.proofs.Bools.{or_none_lem}
 use Rattle.hir_def.specs.Finds.{place_of}
 use Rattle.hir_def.specs.Tests.{PassedBy, NextBy}
 use Rattle.hir_def.proofs.Searches.{met_by, passed_by}
-use Rattle.join_rules.proofs.Merged.{name_equal}
 use Rattle.join.specs.numbers.Parts.{after_name, names_from}
 use Rattle.join.specs.numbers.Numbered.{is_named}
 
@@ -84,11 +84,7 @@ pub known_one : (W X A P : List ℕ) (at i : ℕ) (r : Bool) → r ≡ any (same
 unfolding any rows
 known_one W X A P at i r e q =
     ap (λ h. same_name (name_at X h) (name_at W at)) (sym q) ∙ same_turned (name_at X (get_or P 0 0)) (name_at W at)
-    ∙ or_false (same_name (name_at W at) (name_at X (get_or P 0 0))) ∙ sym e
-  where
-    or_false : (b : Bool) → b ≡ b || false
-    or_false true = refl
-    or_false false = refl
+    ∙ sym (or-false (same_name (name_at W at) (name_at X (get_or P 0 0)))) ∙ sym e
 
 -- where the walk begins
 pub names_whole : (p : Name → Bool) (W : List ℕ) (n : ℕ) → place_of p 0 (names_from W 0 n) ≡ place_of p 0 (names_from W 0 (n - 0))

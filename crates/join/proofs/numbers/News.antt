@@ -1,5 +1,5 @@
 -- Which of the second's names and definitions are new: those whose number is not one of the first's; their numbers follow the first's in order.
-use Prim.Native.Nat.{ℕ, ◌+◌}
+use Prim.Native.Nat.{ℕ}
 use mathlib.Core.Path.{◌≡◌, sym, ◌∙◌, ap}
 use mathlib.Core.List.{List}
 use mathlib.Core.Bool.{Bool, not}
@@ -11,7 +11,7 @@ use Rattle.snapshot.specs.Records.{Snapshot}
 use Rattle.check_rules.specs.Tests.{no_name, no_definition, same_name}
 use Rattle.accept.proofs.Accepted.{by_test}
 use Rattle.join_rules.specs.Joined.{is_new, merged_number, name_number, same_builtin, definition_number}
-use Rattle.join_rules.proofs.Merged.{number_new, number_old, From}
+use Rattle.join_rules.proofs.Merged.{number_new, number_old}
 
 module _ {A : Type 0} (same : A → A → Bool) (d : A) (xs ys : List A) where
   number_test : (n : ℕ) → is_new same xs (get_or ys n d) ≡ not (ltb (merged_number same d xs ys n) (length xs))
@@ -21,19 +21,11 @@ module _ {A : Type 0} (same : A → A → Bool) (d : A) (xs ys : List A) where
       (λ a. let q = number_new same d xs ys n a in a ∙ sym (ap not (le-ltb k (length xs) (omega arith))))
       (λ a. a ∙ sym (ap not (lt-ltb k (length xs) (number_old same d xs ys n a).0)))
 
-  number_order : (i : ℕ) (f : From (is_new same xs) d ys i) → merged_number same d xs ys f.number ≡ length xs + i
-  number_order i f = number_new same d xs ys f.number f.passes ∙ ap (λ k. length xs + k) f.before
-
 module _ (s t : Snapshot) where
   -- a name is new where its number is past the first's
   pub name_test : (n : ℕ) → is_new same_name s.names (get_or t.names n no_name) ≡ not (ltb (name_number s t n) (length s.names))
   unfolding name_number
   name_test n = number_test same_name no_name s.names t.names n
-
-  -- the i-th new name has the i-th number past them
-  pub name_order : (i : ℕ) (f : From (is_new same_name s.names) no_name t.names i) → name_number s t f.number ≡ length s.names + i
-  unfolding name_number
-  name_order i f = number_order same_name no_name s.names t.names i f
 
   -- definitions likewise
 
@@ -41,8 +33,3 @@ module _ (s t : Snapshot) where
       → is_new (same_builtin s t) s.definitions (get_or t.definitions n no_definition) ≡ not (ltb (definition_number s t n) (length s.definitions))
   unfolding definition_number
   definition_test n = number_test (same_builtin s t) no_definition s.definitions t.definitions n
-
-  pub definition_order : (i : ℕ) (f : From (is_new (same_builtin s t) s.definitions) no_definition t.definitions i)
-      → definition_number s t f.number ≡ length s.definitions + i
-  unfolding definition_number
-  definition_order i f = number_order (same_builtin s t) no_definition s.definitions t.definitions i f

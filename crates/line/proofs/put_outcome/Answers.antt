@@ -1,7 +1,5 @@
 use borrow.Author.Rules.{rules}
 use native.Mathlib.Omega.{arith}
-use mathlib.Core.Path.{◌≡◌}
-use lib.ListN.{length}
 use Rattle.line.proofs.Laws.{found_text, none_text, misleads_text, refused_text_lem}
 use Rattle.printing.proofs.Laws.{put_as, put_two}
 use Rattle.find_path_spec.specs.Line.{path_text}

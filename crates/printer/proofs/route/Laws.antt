@@ -1,6 +1,6 @@
 -- Laws of the line with its route.
 use Prim.Native.Nat.{ℕ, ◌+◌, ◌/◌, ◌%◌, ◌≤◌, ◌<◌}
-use mathlib.Core.Path.{◌≡◌, refl, sym, ◌∙◌, ap, ap₂, subst}
+use mathlib.Core.Path.{◌≡◌, refl, sym, ◌∙◌, ap, ap₂}
 use mathlib.Core.List.{List, [], ◌∷◌, ◌++◌, append_assoc, append-nil}
 use mathlib.Core.Bool.{true, false, ◌||◌}
 use native.Mathlib.Omega.{arith}
@@ -12,21 +12,20 @@ use Rattle.snapshot.specs.Limits.{area_limit}
 use Rattle.snapshot.specs.Records.{Snapshot}
 use Rattle.snapshot.specs.Layouts.{snap_of}
 use Rattle.snapshot.specs.declared.layout.Layout.{Layout}
-use Rattle.check_rules.specs.Verdict.{refuse, verdict}
-use Rattle.accept.specs.Post.{Checked, Judged}
+use Rattle.check_rules.specs.Verdict.{verdict}
+use Rattle.accept.specs.Post.{Checked}
 use Rattle.std.specs.Prelude.{Ok, Err}
-use Rattle.snapshot.specs.Refusals.{refusal_number}
 use Rattle.accept.specs.declared.check.Refused.{Refused}
 use Rattle.printing.specs.Output.{Put}
 use Rattle.printing.proofs.Laws.{put_as}
 use Rattle.find_path_spec.specs.declared.Question.{Question}
 use Rattle.find_path_spec.specs.declared.Report.{Report}
-use Rattle.find_path_spec.specs.Report.{refused, report_of}
+use Rattle.find_path_spec.specs.Report.{refused}
 use Rattle.find_path_spec.specs.Line.{bytes_of, decimal, rule_names, step_text, steps_text, route_text, line_in, routed_line_in, routed_line_of}
 use Rattle.find_path_spec.specs.Line.{snapshot_of}
 use Rattle.find_path_spec.proofs.laws.Reports.{report_bounded}
 use Rattle.answer.specs.checked.Questioned.{Questioned}
-use Rattle.answer.proofs.checked.Putting.{refusal_only}
+use Rattle.answer.proofs.checked.Putting.{report_refused, snapshot_read}
 use Rattle.printer.specs.route.Routed.{RoutedOn}
 
 pub step_whole : (t : ℕ) {rule : ℕ} → rule ≡ t % 8
@@ -72,9 +71,6 @@ refused_routed s from n =
     sym (append-nil (line_in s from (refused n))) ∙ ap (λ x. line_in s from (refused n) ++ x) (route_none (refused n) refl)
 
 module _ (W : List ℕ) (q : Question) (A : List ℕ) (c : Checked) (r : Report) (a : Questioned W q c A r) where
-  pub few_names : r.count ≤ 16
-  few_names = rw a.report (report_bounded W area_limit q).few
-
   pub few_steps : r.steps ≤ 17
   few_steps = let b = report_bounded W area_limit q in rw a.report (omega (arith, b.few, b.once))
 
@@ -83,21 +79,18 @@ module _ (W : List ℕ) (q : Question) (A : List ℕ) (c : Checked) (r : Report)
         → ((s : Snapshot) (from : ℕ) → Put old 0 (line_in s from (refused r.number) ++ bytes_of "\n") new t) → RoutedOn W q c A old new t
     unfolding routed_line_of
     routed_refused f e p =
-        let s : Snapshot = snapshot_of (verdict W) in
-        let v : verdict W ≡ refuse (refusal_number f.why) f.at = sym (subst (λ (x : Checked). Judged W A x) e a.checked).same in
-        let u : refused r.number ≡ report_of W area_limit q = ap (λ (x : Report). refused x.number) a.report
-        ∙ sym (refusal_only W q (refusal_number f.why) f.at v) in
+        let s = snapshot_of (verdict W) in
+        let u = refused_routed s q.query.from.0 r.number ∙ ap (routed_line_in s q.query.from.0) (report_refused W q A c r a f e) in
         record {
-          line = put_as (ap (λ x. x ++ bytes_of "\n") (refused_routed s q.query.from.0 r.number ∙ ap (routed_line_in s q.query.from.0) u))
-              (p s q.query.from.0);
+          line = put_as (ap (λ x. x ++ bytes_of "\n") u) (p s q.query.from.0);
           checked = a.checked;
         }
 
     pub routed_accepted : (l : Layout) → c ≡ Ok l → Put old 0 (routed_line_in (snap_of W A l) q.query.from.0 r ++ bytes_of "\n") new t
         → RoutedOn W q c A old new t
-    unfolding routed_line_of snapshot_of
+    unfolding routed_line_of
     routed_accepted l e p =
-        let v : snap_of W A l ≡ snapshot_of (verdict W) = ap snapshot_of (subst (λ (x : Checked). Judged W A x) e a.checked).same in
+        let v = snapshot_read W q A c r a l e in
         record {
           line = put_as (ap₂ (λ x y. routed_line_in x q.query.from.0 y ++ bytes_of "\n") v a.report) p;
           checked = a.checked;

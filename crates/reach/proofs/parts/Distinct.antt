@@ -9,7 +9,7 @@ use Rattle.accept.proofs.Accepted.{by_test}
 use Rattle.accept.proofs.Bools.{each_map, or_none_lem}
 use Rattle.hir_def.specs.Items.{same_item}
 use Rattle.hir_def.specs.declared.Item.{Item}
-use Rattle.read_back.proofs.Exact.{same_item_lem, same_self}
+use Rattle.hir_def.proofs.Same.{same_item_lem, same_self}
 use Rattle.find_path_spec.proofs.laws.Fewer.{or_right}
 use Rattle.reach.specs.parts.Reach.{item_in, is_met, new_from, distinct}
 

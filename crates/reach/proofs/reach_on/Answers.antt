@@ -6,7 +6,7 @@ use Rattle.snapshot.proofs.Laws.{refusal_some}
 use Rattle.find_path_spec.specs.declared.Query.{Query}
 use Rattle.find_path_spec.specs.Report.{call_fault}
 use Rattle.reach.specs.declared.parts.Viewer.{Viewer}
-use Rattle.answer.proofs.checked.Laws.{fault_free, reads_of, modules_count}
+use Rattle.answer.proofs.checked.Laws.{length_modules, fault_free, reads_of}
 use Rattle.reach.specs.parts.Reach.{query_for}
 use Rattle.reach.proofs.Laws.{reach_fault, reach_verdict, by_refusal, by_answer, unknown_module, known_module}
 use Rattle.reach.proofs.reach_on.Goals as goal
@@ -35,7 +35,7 @@ pub returns-then-layout-v : goal.returns-then-layout-v
 returns-then-layout-v c =
     let s = c.args in
     let l = c.in_ok-layout.layout in
-    let e = unknown_module s.v _ (snap_of s.words.now s.area.now l) _ (modules_count s.words.now s.area.now l) c.if-layout-v.true refl in
+    let e = unknown_module s.v _ (snap_of s.words.now s.area.now l) _ (length_modules s.words.now s.area.now l) c.if-layout-v.true refl in
     let k = by_answer s.v _ s.words.now s.area.now s.c c.requires l _ c.in_ok-layout.was refl e in
     record {
       reach = reach_verdict s.v _ s.words.now area_limit _ (c.in_ok-call_fault.ensures ∙ asked s.v c.query_for.ensures) refl k.0;
@@ -58,7 +58,7 @@ returns c =
     let s = c.args in
     let l = c.in_ok-layout.layout in
     let f = c.reach_in.ensures in
-    let e = known_module s.v _ (snap_of s.words.now s.area.now l) _ (modules_count s.words.now s.area.now l) c.if-layout-v.false
+    let e = known_module s.v _ (snap_of s.words.now s.area.now l) _ (length_modules s.words.now s.area.now l) c.if-layout-v.false
     refl f.value in
     let k = by_answer s.v _ s.words.now s.area.now s.c c.requires l _ c.in_ok-layout.was f.area_unchanged e in
     record {

@@ -4,14 +4,9 @@ use mathlib.Core.Path.{◌≡◌, refl}
 use mathlib.Core.List.{List, [], ◌∷◌}
 use mathlib.Core.Bool.{Bool, true, false, ◌&&◌}
 use Rattle.std.specs.Prelude.{Option, None, Some}
-use Rattle.snapshot.specs.Lists.{rows, any, all, eq_list}
-use Rattle.snapshot.specs.Words.{arguments_of}
 use Rattle.snapshot.specs.Records.{Snapshot}
-use Rattle.check_rules.specs.Tests.{text_bound, padded}
-use Rattle.check_rules.specs.Steps.{name_step, crate_step, dependency_step, map_step, module_step, child_step, prelude_step, definition_step}
-use Rattle.check_rules.specs.Steps.{scope_step}
-use Rattle.check_rules.specs.Steps.{import_step, extern_step, member_step}
-use Rattle.check_rules.specs.Verdict.{Verdict, refuse, accept, arguments_from, record_step, step_at, finish, records, verdict}
+use Rattle.check_rules.specs.Verdict.{Verdict, refuse, accept, verdict}
+use Rattle.check_rules.specs.Worked.{verdict_on_literals}
 use Rattle.module_tree.specs.rules.Modules.{place_of, module_of, map_of, root_of, own_map, crate_root, or_else, containing}
 use Rattle.module_tree.specs.rules.Visibility.{last_or, last_to, last, met_or, met_to, met, unless, climb_step, climb, in_module, is_visible_from}
 use Rattle.hir_def.specs.Finds.{first_of, or_first, first_some}
@@ -21,8 +16,7 @@ use Rattle.hir_def.specs.Nameres.{steps_or, steps_to, steps, prelude_of}
 use Rattle.hir_def.specs.declared.Item.{Item}
 use Rattle.read_back.specs.readings.Reads.{outward, scopes_from, stands_for, meaning, entry_or, extern_named, extern_means, in_externs, prelude_means}
 use Rattle.read_back.specs.readings.Reads.{in_prelude_of, entry_from, first_name, variant_named, variant_in, later_name, after, looked_in}
-use Rattle.read_back.specs.readings.Reads.{follow, plainly}
-use Rattle.read_back.specs.readings.Reads.{absolutely, parent_means, reads_to}
+use Rattle.read_back.specs.readings.Reads.{follow, plainly, absolutely, parent_means, reads_to}
 
 -- viewing module, namespace, kind of the path, its names, and what it means
 pub record Row : Type 0 where
@@ -193,7 +187,6 @@ pub block_reads : reads (verdict blocks)
 unfolding reads agrees alike head blocks reads_to parent_means absolutely plainly follow looked_in after later_name variant_in variant_named
     first_name entry_from in_prelude_of prelude_means in_externs extern_means extern_named entry_or meaning stands_for scopes_from outward
     last_or last_to last met_or met_to met unless climb_step climb in_module is_visible_from steps_or steps_to steps prelude_of get first_of
-    or_first first_some item_of same_item definition_of module_of map_of root_of own_map crate_root or_else containing place_of verdict records
-    step_at record_step finish arguments_from arguments_of name_step crate_step dependency_step map_step module_step child_step prelude_step
-    definition_step scope_step import_step extern_step member_step text_bound padded rows any all eq_list
+    or_first first_some item_of same_item definition_of module_of map_of root_of own_map crate_root or_else containing place_of
+    verdict_on_literals
 block_reads = refl

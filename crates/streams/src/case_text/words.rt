@@ -2,7 +2,8 @@
 //! After four words k, n, h and a, a star drops them and writes n words more: copies of the k words before, in each copy
 //! with h added to the heads and a to the arguments.
 ghost use Rattle.std.specs.Prelude.{◌≡◌, ◌<◌, ◌≤◌, length, replicate, take, IfOk};
-ghost use Rattle.streams.specs.case_text.Words.{digit_of, code_of, IsDigit, next_word, under_way, read_to, stored, raised_by, copied, repeated, words_read};
+ghost use Rattle.streams.specs.case_text.Words.{digit_of, code_of, IsDigit, next_word, under_way};
+ghost use Rattle.streams.specs.case_text.Words.{read_to, stored, raised_by, copied, repeated, words_read};
 
 use std::alloc::{AllocError, Global};
 

@@ -8,16 +8,17 @@ use lib.Dec.{eqb}
 use Rattle.snapshot.specs.Records.{Snapshot, Extern}
 use Rattle.accept.specs.Valid.{Each}
 use Rattle.accept.proofs.Accepted.{by_test}
+use Rattle.module_tree.proofs.Laws.{by_option}
 use Rattle.hir_def.specs.Finds.{first_of, or_first, select}
 use Rattle.hir_def.specs.Items.{types, crate_of, crate_data, ns_of, same_item, module_item, defined_item}
 use Rattle.hir_def.specs.declared.Item.{Item}
+use Rattle.hir_def.proofs.Every.{each_in}
 use Rattle.nameable.specs.Paths.{Keyword, Path, keyword, absolute, Named, named, extern_named, externs_in, absolutes, keyword_module, module_named}
 use Rattle.nameable.specs.Paths.{reads}
 use Rattle.nameable.specs.Paths.{item_in, means}
 use Rattle.nameable.specs.Breadth.{Way, added, keywords, nameless, single, onward, reached, is_item, first_to, arrival, turns}
 use Rattle.nameable.specs.Queue.{run}
-use Rattle.nameable.proofs.Lists.{by_option}
-use Rattle.nameable.proofs.Reached.{each_in, each_made, named_in_lem, Plenty}
+use Rattle.nameable.proofs.Reached.{each_made, named_in_lem, Plenty}
 use Rattle.nameable.proofs.Queue.{onward_append, reached_end, first_append, arrival_order, run_reached}
 
 -- a test that fails for each finds nothing

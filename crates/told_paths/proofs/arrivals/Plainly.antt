@@ -11,21 +11,24 @@ use Rattle.accept.specs.Valid.{Each, more}
 use Rattle.accept.proofs.Accepted.{by_test}
 use Rattle.accept.proofs.Bools.{each_map, each_snoc}
 use Rattle.module_tree.specs.rules.Modules.{map_no}
+use Rattle.module_tree.proofs.Laws.{by_option}
 use Rattle.hir_def.specs.Finds.{first_of, first_some, or_first}
 use Rattle.hir_def.specs.Items.{ns_of, item_of, same_item, defined_item}
 use Rattle.hir_def.specs.ItemScope.{is_for}
 use Rattle.hir_def.specs.Nameres.{prelude_of}
 use Rattle.hir_def.specs.declared.Item.{Item}
+use Rattle.hir_def.proofs.Same.{same_item_lem, ns_of_item}
+use Rattle.hir_def.proofs.Every.{each_in}
 use Rattle.nameable.specs.Seen.{seen}
 use Rattle.nameable.specs.Paths.{Path, plain, Named, named, is_seen_in, as_named, entries_in, externs_in, entries_over, scopes_from, prelude_entries}
 use Rattle.nameable.specs.Paths.{firsts}
 use Rattle.nameable.specs.Paths.{reads, item_in, means}
 use Rattle.nameable.specs.Breadth.{single, is_item, first_to}
-use Rattle.nameable.proofs.Lists.{by_option, none_some, first_hit, first_miss, first_found_lem}
-use Rattle.nameable.proofs.Reached.{each_in, named_in_lem}
+use Rattle.nameable.proofs.Lists.{none_some, first_hit, first_miss, first_found_lem}
+use Rattle.nameable.proofs.Reached.{named_in_lem}
 use Rattle.any_path.proofs.Plains.{map_or, first_or}
-use Rattle.nameable.proofs.Arrives.{same_item_lem, or_first_none}
-use Rattle.nameable.proofs.Lookups.{first_mapped, first_same, ns_of_item}
+use Rattle.nameable.proofs.Arrives.{or_first_none}
+use Rattle.nameable.proofs.Lookups.{first_mapped, first_same}
 use Rattle.nameable.proofs.Queue.{first_of_append}
 use Rattle.told_paths.specs.arrivals.Steps.{is_plain_for, plain_in, plain_in_prelude, plain_entry}
 use Rattle.told_paths.proofs.arrivals.Others.{IsModule, externs_modules}

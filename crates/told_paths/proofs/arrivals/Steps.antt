@@ -21,14 +21,15 @@ use Rattle.hir_def.specs.Finds.{first_of, or_first}
 use Rattle.hir_def.specs.Items.{types, ns_of, item_of, same_item, module_item}
 use Rattle.hir_def.specs.ItemScope.{is_for, names_of}
 use Rattle.hir_def.specs.declared.Item.{Item}
+use Rattle.hir_def.proofs.Same.{same_item_lem, ns_of_item}
 use Rattle.nameable.specs.Seen.{seen}
 use Rattle.nameable.specs.Paths.{Path, into, named, is_seen_in, as_named, within, after, reads, means, place_in}
 use Rattle.nameable.specs.Breadth.{Way, onward, first_to}
 use Rattle.nameable.specs.Queue.{paths_after}
 use Rattle.nameable.proofs.Lists.{first_found_lem}
 use Rattle.nameable.proofs.Reached.{item_in_lem}
-use Rattle.nameable.proofs.Arrives.{same_item_lem, or_first_none, or_first_some}
-use Rattle.nameable.proofs.Lookups.{seen_named_lem, ns_of_item, after_first}
+use Rattle.nameable.proofs.Arrives.{or_first_none, or_first_some}
+use Rattle.nameable.proofs.Lookups.{seen_named_lem, after_first}
 use Rattle.nameable.proofs.Queue.{first_append}
 use Rattle.any_path.specs.Rows.{row_at, target_at, link_at, name_at, path_from, path_to, path_at, way_at, run_at, Run, Meant}
 use Rattle.any_path.proofs.Written.{from_same, path_same}

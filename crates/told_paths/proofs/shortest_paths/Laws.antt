@@ -12,6 +12,7 @@ use Rattle.snapshot.specs.Records.{Snapshot, Member}
 use Rattle.snapshot.specs.Layouts.{snap_of}
 use Rattle.snapshot.specs.declared.layout.Layout.{Layout}
 use Rattle.accept.specs.Post.{Reads}
+use Rattle.module_tree.proofs.Laws.{by_option}
 use Rattle.hir_def.specs.Finds.{first_of}
 use Rattle.hir_def.specs.Items.{types, macros, variant_kind, definition_of, ns_of, same_item, module_item, defined_item}
 use Rattle.hir_def.specs.declared.Item.{Item}
@@ -19,7 +20,6 @@ use Rattle.read_back.specs.readings.Reads.{is_variant_named, variant_named as fi
 use Rattle.nameable.specs.Paths.{Path, into, Named, named, is_variant_of, variant_named, variants_in, within, item_in, means}
 use Rattle.nameable.specs.Breadth.{is_item, first_to, arrival, turns, checked_path, variant_after, by_enum, shorter, shortest_of, shortest}
 use Rattle.nameable.specs.Queue.{run}
-use Rattle.nameable.proofs.Lists.{by_option}
 use Rattle.nameable.proofs.Reached.{into_means}
 use Rattle.nameable.proofs.Arrives.{arrives_good}
 use Rattle.nameable.proofs.Lookups.{first_mapped, first_same}

@@ -29,12 +29,13 @@ use Rattle.hir_def.specs.Finds.{first_of}
 use Rattle.hir_def.specs.Items.{types, macros, definition_of, crate_data, item_of, module_item, defined_item}
 use Rattle.hir_def.specs.declared.Item.{Item}
 use Rattle.hir_def.specs.declared.Item.TheVariants.{Mod, Def}
+use Rattle.hir_def.proofs.Every.{each_in}
 use Rattle.nameable.specs.Paths.{Keyword, supers, crate, Path, keyword, absolute, into, Named, named, as_named, entries_in, variant_named}
 use Rattle.nameable.specs.Paths.{variants_in, extern_named, absolutes, within, above_or, above, keyword_module, module_named, after, reads, item_in}
 use Rattle.nameable.specs.Paths.{place_in}
 use Rattle.nameable.specs.Queue.{seen_named}
 use Rattle.nameable.proofs.Lists.{none_some, first_found_lem}
-use Rattle.nameable.proofs.Reached.{each_in, item_in_lem}
+use Rattle.nameable.proofs.Reached.{item_in_lem}
 use Rattle.nameable.proofs.Lookups.{named_seen}
 use Rattle.read_back.specs.readings.Reads.{extern_named as extern_of_name, is_variant_named, variant_named as first_variant}
 use Rattle.any_path.specs.Plain.{externs_named}

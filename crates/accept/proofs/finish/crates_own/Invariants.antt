@@ -8,4 +8,5 @@ use Rattle.accept.proofs.finish.crates_own.Given as goal
 
 abbrev pub invariant-loop-c : goal.invariant-loop-c
 invariant-loop-c l = (l.c ≤ l.crates)
-    × (all (λ j. not (eqb (own_map l.area j) 0)) (rows (λ j. j) 0 l.crates) ≡ all (λ j. not (eqb (own_map l.area j) 0)) (rows (λ j. j) l.c (l.crates - l.c)))
+    × (all (λ j. not (eqb (own_map l.area j) 0)) (rows (λ j. j) 0 l.crates)
+    ≡ all (λ j. not (eqb (own_map l.area j) 0)) (rows (λ j. j) l.c (l.crates - l.c)))

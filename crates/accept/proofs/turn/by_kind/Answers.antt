@@ -57,48 +57,48 @@ step-requires-in-Member c = kind_ready 13 c.requires.of_kind (ap kind_number c.i
 
 pub returns-in-Name : goal.returns-in-Name
 unfolding arguments_of record_step
-returns-in-Name c = kind_answers 1 c.requires.of_kind (ap kind_number c.in-Name.is) refl c.step.new.area c.step.result c.step.ensures
+returns-in-Name c = kind_answers 1 c.requires.of_kind (ap kind_number c.in-Name.is) refl _ _ c.step.ensures
 
 pub returns-in-Crate : goal.returns-in-Crate
 unfolding arguments_of record_step
-returns-in-Crate c = kind_answers 2 c.requires.of_kind (ap kind_number c.in-Crate.is) (omega arith) c.step-in-Crate.new.area c.step-in-Crate.result c.step-in-Crate.ensures
+returns-in-Crate c = kind_answers 2 c.requires.of_kind (ap kind_number c.in-Crate.is) (omega arith) _ _ c.step-in-Crate.ensures
 
 pub returns-in-Dependency : goal.returns-in-Dependency
 unfolding arguments_of record_step
-returns-in-Dependency c = kind_answers 3 c.requires.of_kind (ap kind_number c.in-Dependency.is) (omega arith) c.args.area.now c.step-in-Dependency.result c.step-in-Dependency.ensures
+returns-in-Dependency c = kind_answers 3 c.requires.of_kind (ap kind_number c.in-Dependency.is) (omega arith) _ _ c.step-in-Dependency.ensures
 
 pub returns-in-Map : goal.returns-in-Map
 unfolding arguments_of record_step
-returns-in-Map c = kind_answers 4 c.requires.of_kind (ap kind_number c.in-Map.is) (omega arith) c.step-in-Map.new.area c.step-in-Map.result c.step-in-Map.ensures
+returns-in-Map c = kind_answers 4 c.requires.of_kind (ap kind_number c.in-Map.is) (omega arith) _ _ c.step-in-Map.ensures
 
 pub returns-in-Module : goal.returns-in-Module
 unfolding arguments_of record_step
-returns-in-Module c = kind_answers 5 c.requires.of_kind (ap kind_number c.in-Module.is) (omega arith) c.step-in-Module.new.area c.step-in-Module.result c.step-in-Module.ensures
+returns-in-Module c = kind_answers 5 c.requires.of_kind (ap kind_number c.in-Module.is) (omega arith) _ _ c.step-in-Module.ensures
 
 pub returns-in-Child : goal.returns-in-Child
 unfolding arguments_of record_step
-returns-in-Child c = kind_answers 6 c.requires.of_kind (ap kind_number c.in-Child.is) (omega arith) c.step-in-Child.new.area c.step-in-Child.result c.step-in-Child.ensures
+returns-in-Child c = kind_answers 6 c.requires.of_kind (ap kind_number c.in-Child.is) (omega arith) _ _ c.step-in-Child.ensures
 
 pub returns-in-Prelude : goal.returns-in-Prelude
 unfolding arguments_of record_step
-returns-in-Prelude c = kind_answers 7 c.requires.of_kind (ap kind_number c.in-Prelude.is) (omega arith) c.args.area.now c.step-in-Prelude.result c.step-in-Prelude.ensures
+returns-in-Prelude c = kind_answers 7 c.requires.of_kind (ap kind_number c.in-Prelude.is) (omega arith) _ _ c.step-in-Prelude.ensures
 
 pub returns-in-Definition : goal.returns-in-Definition
 unfolding arguments_of record_step
-returns-in-Definition c = kind_answers 8 c.requires.of_kind (ap kind_number c.in-Definition.is) (omega arith) c.step-in-Definition.new.area c.step-in-Definition.result c.step-in-Definition.ensures
+returns-in-Definition c = kind_answers 8 c.requires.of_kind (ap kind_number c.in-Definition.is) (omega arith) _ _ c.step-in-Definition.ensures
 
 pub returns-in-Scope : goal.returns-in-Scope
 unfolding arguments_of record_step
-returns-in-Scope c = kind_answers 9 c.requires.of_kind (ap kind_number c.in-Scope.is) (omega arith) c.step-in-Scope.new.area c.step-in-Scope.result c.step-in-Scope.ensures
+returns-in-Scope c = kind_answers 9 c.requires.of_kind (ap kind_number c.in-Scope.is) (omega arith) _ _ c.step-in-Scope.ensures
 
 pub returns-in-Import : goal.returns-in-Import
 unfolding arguments_of record_step
-returns-in-Import c = kind_answers 10 c.requires.of_kind (ap kind_number c.in-Import.is) (omega arith) c.args.area.now c.step-in-Import.result c.step-in-Import.ensures
+returns-in-Import c = kind_answers 10 c.requires.of_kind (ap kind_number c.in-Import.is) (omega arith) _ _ c.step-in-Import.ensures
 
 pub returns-in-Extern : goal.returns-in-Extern
 unfolding arguments_of record_step
-returns-in-Extern c = kind_answers 11 c.requires.of_kind (ap kind_number c.in-Extern.is) (omega arith) c.step-in-Extern.new.area c.step-in-Extern.result c.step-in-Extern.ensures
+returns-in-Extern c = kind_answers 11 c.requires.of_kind (ap kind_number c.in-Extern.is) (omega arith) _ _ c.step-in-Extern.ensures
 
 pub returns-in-Member : goal.returns-in-Member
 unfolding arguments_of record_step
-returns-in-Member c = kind_answers 13 c.requires.of_kind (ap kind_number c.in-Member.is) (omega arith) c.args.area.now c.step-in-Member.result c.step-in-Member.ensures
+returns-in-Member c = kind_answers 13 c.requires.of_kind (ap kind_number c.in-Member.is) (omega arith) _ _ c.step-in-Member.ensures

@@ -1,9 +1,10 @@
 use mathlib.Core.Path.{refl}
 use Rattle.check_rules.proofs.Exits.{err_is}
+use Rattle.module_tree.proofs.Reading.{length_modules}
 use Rattle.snapshot.specs.Limits.{area_limit}
 use Rattle.snapshot.specs.Layouts.{snap_of}
 use Rattle.snapshot.proofs.Laws.{refusal_some}
-use Rattle.answer.proofs.checked.Laws.{fault_free, fault_known, definitions_count, modules_count, answer_fault, answer_found}
+use Rattle.answer.proofs.checked.Laws.{fault_free, fault_known, definitions_count, answer_fault, answer_found}
 use Rattle.answer.proofs.checked.answer_on.Goals as goal
 
 pub returns-in_err-question_fault : goal.returns-in_err-question_fault
@@ -23,7 +24,7 @@ report_in-requires c =
     let l = c.args.records.now.layout in
     let q = c.args.question in
     let f = fault_free area_limit q.query q.fuel c.requires.1 in
-    let k = fault_known (snap_of W A l) q.query l.definitions l.modules (definitions_count W A l) (modules_count W A l)
+    let k = fault_known (snap_of W A l) q.query l.definitions l.modules (definitions_count W A l) (length_modules W A l)
     (c.in_ok-question_fault.ensures A) in (
       c.requires.0,
       k.0,

@@ -184,7 +184,8 @@ find_in_deps-loop-next-init t c =
     record {
       same = ap (dependencies (snap_by a.records.now a.area.now) a.x a.left a.item (out_of a.o))
           (sym (rows_whole (select (among a.x.from_crate.0 a.which))
-          (λ i. dependency_at a.records.now.words.now (dependency_base a.records.now.layout + dependency_size * i)) a.records.now.layout.dependencies));
+          (λ i. dependency_at a.records.now.words.now (dependency_base a.records.now.layout + dependency_size * i))
+          a.records.now.layout.dependencies));
       tables = refl;
       long = refl;
       held = c.requires.1;
@@ -217,7 +218,8 @@ find_in_deps-loop-next-preserved t c =
     c.in-Some.is in
     let g = c.loop-next in
     deps_next a.records.now.words.now a.area.now g.area a.records.now.layout a.x a.left c.requires.0.ready c.requires.0.some a.item
-    g.invariant m c.dependency_crate-c.ensures c.find_in_dep-best.ensures (omega (arith, c.find_in_dep-best.array_long, c.told-area, g.invariant.long))
+    g.invariant m c.dependency_crate-c.ensures c.find_in_dep-best.ensures
+    (omega (arith, c.find_in_dep-best.array_long, c.told-area, g.invariant.long))
 
 pub find_in_deps-invariant_of-db : goal.find_in_deps-invariant_of-db
 find_in_deps-invariant_of-db t c =
@@ -285,7 +287,8 @@ find_in_rest-find_in_deps-a-requires t c =
 pub find_in_rest-find_in_deps-requires : goal.find_in_rest-find_in_deps-requires
 find_in_rest-find_in_deps-requires t c =
     let a = c.args in
-    let p = deps_passed a.item _ (record { begun = c.requires.0; held = c.requires.1 }) c.find_in_deps-a.ensures c.find_in_deps-a.array_long c.told-area in
+    let f = c.find_in_deps-a in
+    let p = deps_passed a.item _ (record { begun = c.requires.0; held = c.requires.1 }) f.ensures f.array_long c.told-area in
     (omega (arith, c.decreases), (p.begun, p.held))
 
 pub find_in_rest-returns : goal.find_in_rest-returns
@@ -300,35 +303,39 @@ find_in_rest-returns t c =
 pub find_in_sysroot-find_in_lang-b-requires : goal.find_in_sysroot-find_in_lang-b-requires
 find_in_sysroot-find_in_lang-b-requires t c =
     let a = c.args in
-    let p1 = lang_passed a.item _ (record { begun = c.requires.0; held = c.requires.1 }) c.find_in_lang-a.ensures c.find_in_lang-a.array_long c.told-area in
+    let f1 = c.find_in_lang-a in
+    let p1 = lang_passed a.item _ (record { begun = c.requires.0; held = c.requires.1 }) f1.ensures f1.array_long c.told-area in
     (omega (arith, c.decreases), (p1.begun, p1.held))
 
 pub find_in_sysroot-find_in_lang-c-requires : goal.find_in_sysroot-find_in_lang-c-requires
 find_in_sysroot-find_in_lang-c-requires t c =
     let a = c.args in
-    let p1 = lang_passed a.item _ (record { begun = c.requires.0; held = c.requires.1 }) c.find_in_lang-a.ensures c.find_in_lang-a.array_long c.told-area in
-    let p2 = lang_passed a.item _ p1 c.find_in_lang-b.ensures c.find_in_lang-b.array_long c.find_in_lang-a.array_long in
+    let f1 = c.find_in_lang-a in
+    let p1 = lang_passed a.item _ (record { begun = c.requires.0; held = c.requires.1 }) f1.ensures f1.array_long c.told-area in
+    let p2 = lang_passed a.item _ p1 c.find_in_lang-b.ensures c.find_in_lang-b.array_long f1.array_long in
     (omega (arith, c.decreases), (p2.begun, p2.held))
 
 pub find_in_sysroot-find_in_rest-requires : goal.find_in_sysroot-find_in_rest-requires
 find_in_sysroot-find_in_rest-requires t c =
     let a = c.args in
-    let p1 = lang_passed a.item _ (record { begun = c.requires.0; held = c.requires.1 }) c.find_in_lang-a.ensures c.find_in_lang-a.array_long c.told-area in
-    let p2 = lang_passed a.item _ p1 c.find_in_lang-b.ensures c.find_in_lang-b.array_long c.find_in_lang-a.array_long in
+    let f1 = c.find_in_lang-a in
+    let p1 = lang_passed a.item _ (record { begun = c.requires.0; held = c.requires.1 }) f1.ensures f1.array_long c.told-area in
+    let p2 = lang_passed a.item _ p1 c.find_in_lang-b.ensures c.find_in_lang-b.array_long f1.array_long in
     let p3 = lang_passed a.item _ p2 c.find_in_lang-c.ensures c.find_in_lang-c.array_long c.find_in_lang-b.array_long in
     (omega (arith, c.decreases), (p3.begun, p3.held))
 
 pub find_in_sysroot-returns : goal.find_in_sysroot-returns
 find_in_sysroot-returns t c =
     let a = c.args in
-    let p1 = lang_passed a.item _ (record { begun = c.requires.0; held = c.requires.1 }) c.find_in_lang-a.ensures c.find_in_lang-a.array_long c.told-area in
-    let p2 = lang_passed a.item _ p1 c.find_in_lang-b.ensures c.find_in_lang-b.array_long c.find_in_lang-a.array_long in
+    let f1 = c.find_in_lang-a in
+    let p1 = lang_passed a.item _ (record { begun = c.requires.0; held = c.requires.1 }) f1.ensures f1.array_long c.told-area in
+    let p2 = lang_passed a.item _ p1 c.find_in_lang-b.ensures c.find_in_lang-b.array_long f1.array_long in
     let f3 = c.find_in_lang-c in
     let n = c.langs_for-langs in
     subst (λ (ls : List ℕ). Searched a.area.now (sysroot (snap_by a.records.now a.area.now) a.x a.left
     a.item (out_of a.o) ls (is_stable (given a.o.choice))) c.find_in_rest.new.area c.find_in_rest.result) n.ensures
-    (lang_run a.left a.item _ _ a.o c.requires.0.ready c.find_in_lang-a.ensures
-    (lang_run a.left a.item _ _ c.find_in_lang-a.result p1.begun.ready c.find_in_lang-b.ensures
+    (lang_run a.left a.item _ _ a.o c.requires.0.ready f1.ensures
+    (lang_run a.left a.item _ _ f1.result p1.begun.ready c.find_in_lang-b.ensures
     (lang_run a.left a.item _ _ c.find_in_lang-b.result p2.begun.ready f3.ensures c.find_in_rest.ensures)))
 
 pub find_path_for_module-returns-then-left-eq0 : goal.find_path_for_module-returns-then-left-eq0

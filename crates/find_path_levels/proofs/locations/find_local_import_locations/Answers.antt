@@ -20,9 +20,10 @@ push_containers-n-requires c = (
 
 pub loop-k-init : goal.loop-k-init
 loop-k-init c =
-    walking_start c.args.records.now.words.now _ c.args.records.now.layout _ _ _ _ (ready_begun c.args.records.now.words.now c.args.area.now c.args.records.now.layout
-    c.args.from.0 c.args.s c.args.sought.item c.requires.0 c.requires.2 c.requires.3 c.requires.4 _ _ c.push_children-children.ensures
-    c.push_children-children.auto.area _ _ c.push_containers-n.ensures c.push_containers-n.auto.area)
+    walking_start c.args.records.now.words.now _ c.args.records.now.layout _ _ _ _
+    (ready_begun c.args.records.now.words.now c.args.area.now c.args.records.now.layout c.args.from.0 c.args.s c.args.sought.item
+    c.requires.0 c.requires.2 c.requires.3 c.requires.4 _ _ c.push_children-children.ensures c.push_children-children.auto.area _ _
+    c.push_containers-n.ensures c.push_containers-n.auto.area)
 
 pub push_next-n-requires : goal.push_next-n-requires
 push_next-n-requires c = (

@@ -11,7 +11,8 @@ use Rattle.find_path_levels.proofs.locations.leads.Goals as goal
 pub returns-then-ne : goal.returns-then-ne
 returns-then-ne c =
     leads_no (snap_in c.args.db.now) c.args.from.0 c.args.to.0
-    (scope_at c.args.db.now.records.words.now c.args.h) c.krate.ensures c.krate-2.ensures (eqb-false _ _ (not-true _ (sym c.ne.ensures ∙ c.if-ne.true)))
+    (scope_at c.args.db.now.records.words.now c.args.h) c.krate.ensures c.krate-2.ensures
+    (eqb-false _ _ (not-true _ (sym c.ne.ensures ∙ c.if-ne.true)))
 
 pub is_visible_from-requires : goal.is_visible_from-requires
 is_visible_from-requires c = (
@@ -23,6 +24,6 @@ pub returns : goal.returns
 returns c =
     let n = snap_in c.args.db.now in
     leads_by n c.args.from.0 c.args.to.0
-    (scope_at c.args.db.now.records.words.now c.args.h) c.krate.ensures c.krate-2.ensures (eqb-true _ _ (not-false _ (sym c.ne.ensures ∙ c.if-ne.false)))
-    refl refl (c.is_visible_from.ensures
+    (scope_at c.args.db.now.records.words.now c.args.h) c.krate.ensures c.krate-2.ensures
+    (eqb-true _ _ (not-false _ (sym c.ne.ensures ∙ c.if-ne.false))) refl refl (c.is_visible_from.ensures
     ∙ ap (λ w. is_visible_from n (visibility_kind w) (visibility_number w) c.args.from.0) c.scope_seen.ensures ∙ visible_by n _ _ _)

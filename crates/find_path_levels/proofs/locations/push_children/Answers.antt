@@ -24,8 +24,8 @@ loop-k-preserved c =
     let l = c.loop-k in
     let W = c.args.records.now.words.now in
     elim c.if-eq.branch [
-      | then-eq w ↦ pushing_skip _ _ _ _ _ (pushing_next _ _ _ _ _ l.invariant (child_hit W c.args.records.now.layout c.args.from.0 l.k c.loop-k-test.true
-          c.child_base-base.ensures c.child_owner.ensures (eqb-true _ _ (sym c.eq.ensures ∙ w.if-eq.true)) w.child_child-m.ensures)
+      | then-eq w ↦ pushing_skip _ _ _ _ _ (pushing_next _ _ _ _ _ l.invariant (child_hit W c.args.records.now.layout c.args.from.0 l.k
+          c.loop-k-test.true c.child_base-base.ensures c.child_owner.ensures (eqb-true _ _ (sym c.eq.ensures ∙ w.if-eq.true)) w.child_child-m.ensures)
           w.push_module-run.ensures w.push_module-run.auto.area) refl w.area-is w.run-is
       | else-eq w ↦ pushing_skip _ _ _ _ _ l.invariant (child_miss W c.args.records.now.layout c.args.from.0 l.k c.loop-k-test.true
           c.child_base-base.ensures c.child_owner.ensures (eqb-false _ _ (sym c.eq.ensures ∙ w.if-eq.false))) w.area-is w.run-is
@@ -34,4 +34,5 @@ loop-k-preserved c =
 pub returns : goal.returns
 returns c =
     let l = c.loop-k in
-    pushing_done _ _ _ _ _ l.invariant (child_end c.args.records.now.words.now c.args.records.now.layout c.args.from.0 l.k (omega (arith, c.loop-k-test.false)))
+    pushing_done _ _ _ _ _ l.invariant
+    (child_end c.args.records.now.words.now c.args.records.now.layout c.args.from.0 l.k (omega (arith, c.loop-k-test.false)))

@@ -85,8 +85,8 @@ loop-next-preserved c =
       elim c.if-leads.branch [
         | then-leads w ↦ pushing_skip _ _ _ _ _ (pushing_next _ _ _ _ _ l.invariant.0 (leads_hit W A c.args.records.now.layout c.args.from.0
             c.args.m.0 x t q w.if-leads.true) w.push_module-run.ensures w.push_module-run.auto.area) refl w.area-is w.run-is
-        | else-leads w ↦ pushing_skip _ _ _ _ _ l.invariant.0 (leads_miss W A c.args.records.now.layout c.args.from.0 c.args.m.0 x t q w.if-leads.false)
-            w.area-is w.run-is
+        | else-leads w ↦ pushing_skip _ _ _ _ _ l.invariant.0 (leads_miss W A c.args.records.now.layout c.args.from.0
+            c.args.m.0 x t q w.if-leads.false) w.area-is w.run-is
       ],
       omega (arith, x.below),
       k,

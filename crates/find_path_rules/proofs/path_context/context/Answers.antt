@@ -1,4 +1,3 @@
-use Rattle.hir_def.proofs.Fits.{few_words}
 use Rattle.find_path_rules.proofs.path_context.ContextLaws.{context_same}
 use Rattle.accept.specs.Opened.{snap_in}
 use Rattle.find_path_rules.proofs.path_context.context.Goals as goal

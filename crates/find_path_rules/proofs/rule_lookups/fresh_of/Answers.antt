@@ -1,5 +1,5 @@
 use mathlib.Core.Path.{refl}
-use mathlib.Core.Bool.{true, ◌&&◌}
+use mathlib.Core.Bool.{◌&&◌}
 use Rattle.std.proofs.Common.{rules}
 use Rattle.std.proofs.iter.Serving.{serving}
 use Rattle.snapshot.specs.Records.{Scope}

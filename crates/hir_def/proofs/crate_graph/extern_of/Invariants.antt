@@ -10,5 +10,6 @@ use Rattle.hir_def.proofs.crate_graph.extern_of.Given as goal
 
 abbrev pub invariant-loop-k : goal.invariant-loop-k
 invariant-loop-k l = (l.k ≤ l.db.records.layout.externs)
-    × (first_of (is_extern l.c.0 l.m.0) (reverse (rows (λ i. extern_at l.db.records.words.now (l.base + extern_size * i)) 0 l.db.records.layout.externs))
+    × (first_of (is_extern l.c.0 l.m.0)
+    (reverse (rows (λ i. extern_at l.db.records.words.now (l.base + extern_size * i)) 0 l.db.records.layout.externs))
     ≡ first_of (is_extern l.c.0 l.m.0) (reverse (rows (λ i. extern_at l.db.records.words.now (l.base + extern_size * i)) 0 l.k)))

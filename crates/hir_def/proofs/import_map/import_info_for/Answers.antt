@@ -17,4 +17,5 @@ returns c =
     let q = is_import (snap_of W A l) c.args.c.0 c.args.item in
     next_by q import_at W _ _ refl
     (only_agree (key_at W l Imports) c.import_key-key.result q (import_at W) _
-    (λ h. import_keyed W A l c.args.c.0 c.args.item h (c.import_key-key.ensures ∙ ap (import_key c.args.c.0) c.number_of.ensures)) (λ h t p. search rules)) _ _ c.next_in_chain.ensures
+    (λ h. import_keyed W A l c.args.c.0 c.args.item h (c.import_key-key.ensures ∙ ap (import_key c.args.c.0) c.number_of.ensures))
+    (λ h t p. search rules)) _ _ c.next_in_chain.ensures

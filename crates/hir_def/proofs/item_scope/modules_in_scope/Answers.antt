@@ -13,5 +13,7 @@ pub returns : goal.returns
 returns c =
     λ A.
     let W = c.args.db.now.records.words.now in
-    let test = is_module_entry (snap_of W A c.args.db.now.records.layout) c.args.m.0 in
-    next_by test scope_at W _ _ refl (only_agree (key_at W c.args.db.now.records.layout Modules) c.args.m.0 test (scope_at W) _ (λ h. module_within W A c.args.db.now.records.layout _ (scope_at W h)) (λ h t p. search rules)) _ _ c.next_in_chain.ensures
+    let l = c.args.db.now.records.layout in
+    let test = is_module_entry (snap_of W A l) c.args.m.0 in
+    next_by test scope_at W _ _ refl (only_agree (key_at W l Modules) c.args.m.0 test (scope_at W) _
+    (λ h. module_within W A l _ (scope_at W h)) (λ h t p. search rules)) _ _ c.next_in_chain.ensures

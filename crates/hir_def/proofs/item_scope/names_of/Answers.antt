@@ -22,13 +22,15 @@ pub returns-in-Some : goal.returns-in-Some
 unfolding names_of names_reads
 returns-in-Some c =
     let W = c.args.db.now.records.words.now in
+    let l = c.args.db.now.records.layout in
     let v = c.next_in_chain.ensures in
     let m = met_by _ _ _ _ _ v c.in-Some.is in
-    let test =
-    λ (A : List ℕ) (e : Scope). is_for (snap_of W A c.args.db.now.records.layout) c.args.m.0 c.args.item e && counts c.args.declared e in
+    let test = λ (A : List ℕ) (e : Scope). is_for (snap_of W A l) c.args.m.0 c.args.item e && counts c.args.declared e in
     let x =
     λ (A : List ℕ).
-    found_by (test A) scope_at W _ _ refl (only_agree (key_at W c.args.db.now.records.layout Items) c.item_key.result (test A) (scope_at W) _ (λ h. entry_keyed W A c.args.db.now.records.layout c.args.m.0 c.args.item (counts c.args.declared) c.item_key.ensures h) (λ h t p. search rules))
+    found_by (test A) scope_at W _ _ refl
+    (only_agree (key_at W l Items) c.item_key.result (test A) (scope_at W) _
+    (λ h. entry_keyed W A l c.args.m.0 c.args.item (counts c.args.declared) c.item_key.ensures h) (λ h t p. search rules))
     v c.in-Some.is
     in
     (λ A. (x A).0, λ A. (x A).1, omega (arith, m.head))
@@ -37,12 +39,14 @@ pub returns-in-None : goal.returns-in-None
 unfolding names_of names_reads
 returns-in-None c =
     let W = c.args.db.now.records.words.now in
+    let l = c.args.db.now.records.layout in
     let v = c.next_in_chain.ensures in
-    let test =
-    λ (A : List ℕ) (e : Scope). is_for (snap_of W A c.args.db.now.records.layout) c.args.m.0 c.args.item e && counts c.args.declared e in
+    let test = λ (A : List ℕ) (e : Scope). is_for (snap_of W A l) c.args.m.0 c.args.item e && counts c.args.declared e in
     let x =
     λ (A : List ℕ).
-    none_by (test A) scope_at W _ _ refl (only_agree (key_at W c.args.db.now.records.layout Items) c.item_key.result (test A) (scope_at W) _ (λ h. entry_keyed W A c.args.db.now.records.layout c.args.m.0 c.args.item (counts c.args.declared) c.item_key.ensures h) (λ h t p. search rules))
+    none_by (test A) scope_at W _ _ refl
+    (only_agree (key_at W l Items) c.item_key.result (test A) (scope_at W) _
+    (λ h. entry_keyed W A l c.args.m.0 c.args.item (counts c.args.declared) c.item_key.ensures h) (λ h t p. search rules))
     v c.in-None.is
     in
     (λ A. (x A).0, λ A. (x A).1, search rules)

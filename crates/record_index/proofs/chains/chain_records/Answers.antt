@@ -7,7 +7,8 @@ use Rattle.record_index.proofs.chains.chain_records.Goals as goal
 
 pub loop-k-init : goal.loop-k-init
 loop-k-init g c = (
-  λ f q. threaded_start f c.args.area.now c.clear_heads.new.area c.args.count c.args.keys c.args.heads c.args.links c.requires.room.apart c.clear_heads.ensures,
+  λ f q. threaded_start f c.args.area.now c.clear_heads.new.area c.args.count c.args.keys c.args.heads c.args.links
+      c.requires.room.apart c.clear_heads.ensures,
   c.clear_heads.auto.area,
   omega arith,
 )

@@ -16,11 +16,7 @@ returns-then-is_entry c =
     (sym c.is_entry.ensures ∙ c.if-is_entry.true)
 
 pub overflow_add-at-in-loop-at : goal.overflow_add-at-in-loop-at
-overflow_add-at-in-loop-at c =
-    let h = c.loop-at-test.true in
-    let f = c.requires in
-    let e = arguments_few c.args.words.now _ _ c.arguments.ensures in
-    omega arith
+overflow_add-at-in-loop-at c = omega (arith, c.loop-at-test.true, c.requires, arguments_few c.args.words.now _ _ c.arguments.ensures)
 
 pub loop-at-preserved : goal.loop-at-preserved
 loop-at-preserved c =

@@ -16,11 +16,7 @@ returns-then-kind c =
     walk_stop (is_later W) W _ c.loop-at.at c.loop-at.invariant (ap (ltb 9) (sym c.kind.ensures) ∙ lt-ltb 9 _ c.if-kind.true)
 
 pub overflow_add-at-in-loop-at : goal.overflow_add-at-in-loop-at
-overflow_add-at-in-loop-at c =
-    let h = c.loop-at-test.true in
-    let f = c.requires in
-    let e = arguments_few c.args.words.now _ _ c.arguments.ensures in
-    omega arith
+overflow_add-at-in-loop-at c = omega (arith, c.loop-at-test.true, c.requires, arguments_few c.args.words.now _ _ c.arguments.ensures)
 
 pub loop-at-preserved : goal.loop-at-preserved
 loop-at-preserved c =

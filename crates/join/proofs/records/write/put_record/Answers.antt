@@ -7,14 +7,10 @@ use Rattle.join.proofs.records.Laws.{stored_size}
 use Rattle.join.proofs.records.write.put_record.Goals as goal
 
 pub overflow_add-n : goal.overflow_add-n
-overflow_add-n c =
-    let h = arguments_few c.args.second.now.words.now c.args.at _ c.arguments-n.ensures in
-    omega arith
+overflow_add-n c = omega (arith, arguments_few c.args.second.now.words.now c.args.at _ c.arguments-n.ensures)
 
 pub overflow_add-result : goal.overflow_add-result
-overflow_add-result c =
-    let h = space_small _ _ (counted_space _ c.requires c.arguments-n.ensures) in
-    omega arith
+overflow_add-result c = omega (arith, space_small _ _ (counted_space _ c.requires c.arguments-n.ensures))
 
 pub returns-then-not-write : goal.returns-then-not-write
 returns-then-not-write c = counted_as _ c.arguments-n.ensures (counted _ _ (ap not c.if-not-write.true))
@@ -36,10 +32,7 @@ overflow_cast-target c =
     omega arith
 
 pub overflow_add-target : goal.overflow_add-target
-overflow_add-target c =
-    let i = c.loop-i-test.true in
-    let h = space_small _ _ (counted_space _ c.requires c.arguments-n.ensures) in
-    omega arith
+overflow_add-target c = omega (arith, c.loop-i-test.true, space_small _ _ (counted_space _ c.requires c.arguments-n.ensures))
 
 pub offset_bounds-target-to : goal.offset_bounds-target-to
 offset_bounds-target-to c =
@@ -63,9 +56,7 @@ loop-i-preserved c =
     (omega arith, store_next _ c.args.target.now c.args.to c.loop-i.i _ c.loop-i.invariant.1 c.moved_word.ensures)
 
 pub overflow_add-result-2 : goal.overflow_add-result-2
-overflow_add-result-2 c =
-    let h = space_small _ _ (counted_space _ c.requires c.arguments-n.ensures) in
-    omega arith
+overflow_add-result-2 c = omega (arith, space_small _ _ (counted_space _ c.requires c.arguments-n.ensures))
 
 pub returns : goal.returns
 returns c =

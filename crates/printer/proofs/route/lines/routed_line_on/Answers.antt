@@ -1,6 +1,7 @@
 use Rattle.hir_def.proofs.Fits.{few_words}
 use Rattle.answer.proofs.checked.Laws.{reads_of}
-use Rattle.printer.proofs.route.Laws.{few_names, few_steps, routed_refused, routed_accepted}
+use Rattle.answer.proofs.checked.Putting.{few_names}
+use Rattle.printer.proofs.route.Laws.{few_steps, routed_refused, routed_accepted}
 use Rattle.printer.proofs.route.lines.routed_line_on.Goals as goal
 
 pub invariant_of-records : goal.invariant_of-records
