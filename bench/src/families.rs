@@ -34,7 +34,7 @@ impl Family {
 }
 
 /// Those whose search is bounded. The last number is the largest for which the words are few enough.
-const BOUNDED: [Family; 7] = [
+const BOUNDED: [Family; 8] = [
     Family::new("unreached", snapshots::unreached, &[5, 10, 20, 44], false),
     Family::new("globs", snapshots::globs, &[5, 10, 20, 44], false),
     Family::new("ignored", snapshots::ignored, &[5, 10, 20, 44], false),
@@ -42,11 +42,11 @@ const BOUNDED: [Family; 7] = [
     Family::new("renamed", snapshots::renamed, &[5, 10, 20, 44], false),
     Family::new("layers", snapshots::layers, &[2, 4, 6, 12], true),
     Family::new("clique", snapshots::clique, &[5, 10, 20, 44], true),
+    Family::new("repeats", snapshots::repeats, &[5, 10, 20, 43], true),
 ];
 
 /// Those whose search still grows beyond what anybody waits for.
-const GROWING: [Family; 4] = [
-    Family::new("repeats", snapshots::repeats, &[2, 3, 4, 5], true),
+const GROWING: [Family; 3] = [
     Family::new("detour", snapshots::detour, &[1, 2, 3], true),
     Family::new("prelude", snapshots::prelude, &[1, 2, 3, 4], true),
     Family::new("preferred", snapshots::preferred, &[4, 7, 10, 13], true),

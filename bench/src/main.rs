@@ -25,8 +25,8 @@ const USAGE: &str =
     "bench [questions | files | families | any | lists | check SHAPE COUNT | ask SHAPE COUNT | recheck SHAPE COUNT
     | family FAMILY SIZE COUNT | input SHAPE COUNT | input FAMILY SIZE]
   SHAPE   small, workspace, chain, dependencies, names or scope
-  FAMILY  unreached, globs, ignored, shadowed, renamed, layers or clique, whose search is bounded;
-          repeats, detour, prelude or preferred, whose search grows with the size;
+  FAMILY  unreached, globs, ignored, shadowed, renamed, layers, clique or repeats, whose search is bounded;
+          detour, prelude or preferred, whose search grows with the size;
           charged or hidden, whose search takes all the fuel
   lists   needs the feature `lists`";
 

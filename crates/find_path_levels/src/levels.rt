@@ -21,8 +21,8 @@ pub fn code_of(sought: Sought) -> usize
     }
 }
 
-// Whether m is among the n words from a place on.
-fn has(area: &[u32], from: usize, n: usize, m: ModuleId) -> bool
+/// Whether m is among the n words from a place on.
+pub fn has(area: &[u32], from: usize, n: usize, m: ModuleId) -> bool
     requires { from + n ≤ length area.now }
     ensures { result ≡ has_in (run_at area.now from n) m.0 }
 {

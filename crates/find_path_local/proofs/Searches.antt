@@ -24,7 +24,8 @@ use Rattle.find_path_spec.specs.declared.FindPathCtx.{FindPathCtx}
 use Rattle.find_path_choice.specs.Choices.{Choice, via_local, step_by, nothing, length_left, shorter_if, extended}
 use Rattle.find_path_spec.specs.Walk.{Level, visited, find_local_import_locations}
 use Rattle.find_path_spec.specs.Rules.{first_found, module_rules}
-use Rattle.find_path_spec.specs.Local.{offer, offer_entry, importable_name, location, each_location, calculate_best_path_local, or_local, find_path_for_module_local}
+use Rattle.find_path_spec.specs.Local.{offer, offer_entry, importable_name, location, each_location}
+use Rattle.find_path_spec.specs.Local.{calculate_best_path_local, or_local, find_path_for_module_local}
 use Rattle.find_path_spec.specs.Search.{search_local, best_local}
 use Rattle.find_path_spec.specs.Conditions.{Prepared, Asked, EntryFits, Chosen}
 use Rattle.find_path_spec.proofs.laws.Unfold.{length_falls, local_more}
@@ -42,6 +43,7 @@ use Rattle.find_path_local.specs.tight_rows.Rows.{rows_at, row_at, last_place, r
 use Rattle.find_path_levels.specs.walk_once.Walked.{walk_at, walk_end, Walked}
 use Rattle.find_path_levels.specs.walk_once.Post.{Kept}
 use Rattle.find_path_levels.proofs.walk_once.Walking.{walked_at}
+use Rattle.find_path_local.specs.near.Numbers.{failures_at}
 use Rattle.find_path_local.specs.tight_rows.Post.{Cleared, Tight}
 use Rattle.find_path_local.proofs.distances.Relaxing.{marked_again, walked_beyond}
 use Rattle.find_path_local.proofs.tight_rows.Keeping.{imports_known, row_asked, row_kept, rows_put, rows_none}
@@ -116,7 +118,8 @@ module _ (S : Snapshot) (x : FindPathCtx) where
   pub one_nothing : {left : ℕ} → left ≡ 1 → (ls : List Level) (item : Item) → nothing ≡ calculate_best_path_local S x (search_local S x) left ls item
   unfolding calculate_best_path_local
   one_nothing e ls item =
-      sym (ap (λ n. calculate_best_path_local S x (search_local S x) n ls item) e ∙ each_one ls item [] (find_local_import_locations S x.from.0 (visited ls item)))
+      sym (ap (λ n. calculate_best_path_local S x (search_local S x) n ls item) e
+      ∙ each_one ls item [] (find_local_import_locations S x.from.0 (visited ls item)))
 
 -- the module search
 module _ (S : Snapshot) (x : FindPathCtx) (left : ℕ) (ls : List Level) (m : ℕ) where
@@ -356,7 +359,8 @@ module _ (W A : List ℕ) (l : Layout) (x : FindPathCtx) (left : ℕ) (s : Stack
         pub owner_text : d.path_text_len < 2 ^ 32
         owner_text = omega (arith, owner_fits.text (names_short W A l y.reads), owner_few)
 
-        pub owner_done : {r : Path} → chosen r ≡ extended (snap_of W B l) (chosen d) (scope_at W (row_place w)).name (step_by via_local (row_place w)) (row_flag w)
+        pub owner_done : {r : Path} → chosen r ≡ extended (snap_of W B l) (chosen d) (scope_at W (row_place w)).name
+            (step_by via_local (row_place w)) (row_flag w)
             → Answered W A l x s.top (search_local S₀ x left ls₀ m) B (Some r)
         owner_done z =
             record {
@@ -393,7 +397,7 @@ module _ (W A₀ : List ℕ) (l : Layout) (x : FindPathCtx) (p : Prepared W A₀
 
     module _ (N : List ℕ) (n : Bounded W K l x N) (A : List ℕ) (v : Cleared N l.modules A) where
       tables_same : take table_words A ≡ take table_words A₀
-      tables_same = take_less A N table_words rows_at (omega arith) v.below ∙ n.tables ∙ below_mark
+      tables_same = take_less A N table_words failures_at (omega arith) v.below ∙ n.tables ∙ below_mark
 
       sn : snap_of W A l ≡ snap_of W A₀ l
       sn = same_snap W A₀ A l tables_same p.reads
@@ -401,7 +405,7 @@ module _ (W A₀ : List ℕ) (l : Layout) (x : FindPathCtx) (p : Prepared W A₀
       numbers_same : (i : ℕ) → i < l.modules → distance A i ≡ distance N i
       numbers_same i h =
           let b = p.reads.tables.limited.modules in
-          agree A N rows_at v.below (table_words + i) (omega (arith, h, b))
+          agree A N failures_at v.below (table_words + i) (omega (arith, h, b))
 
       pub search_start : (left : ℕ) → left ≤ path_limit → length A ≡ length A₀
           → Searchable W A l x left (record { top = walk_end; place = 0; depth = 0 })
@@ -419,7 +423,7 @@ module _ (W A₀ : List ℕ) (l : Layout) (x : FindPathCtx) (p : Prepared W A₀
             walked =
                 walked_at (snap_of W A l) x.from.0 N A
                 (subst (λ (s : Snapshot). Walked s x.from.0 N) (walk_same ∙ sym sn) (walked_beyond (snap_of W K l) x.from.0 K N walk_walked n.beyond))
-                (take_less A N walk_end rows_at (omega arith) v.below);
+                (take_less A N walk_end failures_at (omega arith) v.below);
             rows = rows_none W A l x v.none;
             space = omega arith;
             deep = omega arith;

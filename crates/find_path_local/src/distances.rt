@@ -146,7 +146,8 @@ fn mark_prelude(records: &Records, area: &mut Area, from: ModuleId)
 
 // A module, if it has a keyword.
 fn mark_keyword(records: &Records, area: &mut Area, x: FindPathCtx, m: ModuleId)
-    requires { Ready records.now.words.now area.old records.now.layout × (x.from.0 < records.now.layout.modules) × (m.0 < records.now.layout.modules) }
+    requires { Ready records.now.words.now area.old records.now.layout × (x.from.0 < records.now.layout.modules)
+        × (m.0 < records.now.layout.modules) }
     ensures { Lowers area.old area.new
         × (is_keyword (snap_by records.now area.old) x m.0 ≡ true → distance area.new m.0 ≤ 1) }
 {
@@ -178,7 +179,8 @@ fn mark_keywords(records: &Records, area: &mut Area, x: FindPathCtx)
 
 // The step of an entry for a module, to the number d at most; whether it made a number smaller.
 fn relax_entry(records: &Records, area: &mut Area, x: FindPathCtx, h: usize, d: usize) -> bool
-    requires { Ready records.now.words.now area.old records.now.layout × (x.from.0 < records.now.layout.modules) × ScopeFits (counts_in records.now.layout) (scope_at records.now.words.now h)
+    requires { Ready records.now.words.now area.old records.now.layout × (x.from.0 < records.now.layout.modules)
+        × ScopeFits (counts_in records.now.layout) (scope_at records.now.words.now h)
         × (entry_module (snap_by records.now area.old) (scope_at records.now.words.now h) < records.now.layout.modules) × (0 < d) × (d < 2 ^ 32) }
     ensures { Steps area.old d area.new result × Nearer (snap_by records.now area.old) x (distance area.new) d (scope_at records.now.words.now h) }
 {
@@ -224,7 +226,8 @@ fn relax_scope(records: &Records, area: &mut Area, x: FindPathCtx, m: ModuleId, 
 
 // The steps from m, where its number is d; whether there is more to do than for the numbers up to d.
 fn relax_at(records: &Records, area: &mut Area, x: FindPathCtx, m: ModuleId, d: usize) -> bool
-    requires { Ready records.now.words.now area.old records.now.layout × (x.from.0 < records.now.layout.modules) × (m.0 < records.now.layout.modules) × (d < 16) }
+    requires { Ready records.now.words.now area.old records.now.layout × (x.from.0 < records.now.layout.modules)
+        × (m.0 < records.now.layout.modules) × (d < 16) }
     ensures { Turned (snap_by records.now area.old) x area.old m.0 d area.new result }
 {
     let w = word(area, Distances::AT + m.0);
@@ -266,7 +269,8 @@ fn mark_rules(records: &Records, area: &mut Area, x: FindPathCtx)
 
 // A module that is marked and that no rule answers for is far.
 fn sift_at(records: &Records, area: &mut Area, x: FindPathCtx, m: ModuleId)
-    requires { Ready records.now.words.now area.old records.now.layout × (x.from.0 < records.now.layout.modules) × (m.0 < records.now.layout.modules) }
+    requires { Ready records.now.words.now area.old records.now.layout × (x.from.0 < records.now.layout.modules)
+        × (m.0 < records.now.layout.modules) }
     ensures { Sifted records.now.words.now area.old records.now.layout x area.new }
 {
     let at = Distances::AT + m.0;

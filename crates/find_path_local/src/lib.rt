@@ -17,10 +17,12 @@ ghost use Rattle.find_path_local.specs.tight_rows.Post.{Tight};
 ghost use Rattle.find_path_local.specs.Post.{Searchable, Answered};
 
 pub mod distances;
+pub mod near;
 pub mod path_offers;
 pub mod tight_rows;
 
 use crate::distances::{Distances, mark_answers, set_distances};
+use crate::near::{is_lost, note};
 use crate::path_offers::{importable_name, is_named, offer_entry};
 use crate::tight_rows::{Rows, clear_rows, from_row, is_tight, row_of, row_place};
 use accept::opened::Snapshot;
@@ -51,7 +53,8 @@ fn location(
     m: ModuleId,
     s: Stack,
 ) -> Option<Choice>
-    requires { (0 < left) × Searchable records.now.words.now area.old records.now.layout x (left - 1) s × (m.0 < records.now.layout.modules) × ((given best).count < 2 ^ 32) }
+    requires { (0 < left) × Searchable records.now.words.now area.old records.now.layout x (left - 1) s × (m.0 < records.now.layout.modules)
+        × ((given best).count < 2 ^ 32) }
     ensures { Answered records.now.words.now area.old records.now.layout x s.top
         (location_of (snap_by records.now area.old) x (search_local (snap_by records.now area.old) x)
         left (levels_of area.old s.place s.depth) (given best) m.0
@@ -78,7 +81,8 @@ fn location(
 
 // The rules' answer for a module, if it has one: a module with a number above 1 has none.
 fn rules_at(db: &Snapshot, x: FindPathCtx, m: ModuleId) -> Option<Choice>
-    requires { (x.from.0 < db.now.records.layout.modules) × (m.0 < db.now.records.layout.modules) × Bounds (snap_in db.now) x db.now.records.layout.modules (distance db.now.area.now) }
+    requires { (x.from.0 < db.now.records.layout.modules) × (m.0 < db.now.records.layout.modules)
+        × Bounds (snap_in db.now) x db.now.records.layout.modules (distance db.now.area.now) }
     ensures { given result ≡ module_rules (snap_in db.now) x false m.0 }
 {
     if 1 < word(db.area, Distances::AT + m.0) {
@@ -116,8 +120,13 @@ fn find_path_for_module_local(
     if is_tight(area, s, left, m) {
         return tight_at(records, area, x, left, m, s);
     }
+    if is_lost(records, area, x, left, m, s) {
+        return None;
+    }
     let sought = Sought { item: Item::Mod(m) };
-    local_at(records, area, x, left, sought, s)
+    let r = local_at(records, area, x, left, sought, s);
+    note(area, s.top, r);
+    r
 }
 
 // A search for a module whose answer does not depend on the levels: it is done once and kept as a row, by which it is rebuilt.
@@ -130,7 +139,8 @@ fn tight_at(
     m: ModuleId,
     s: Stack,
 ) -> Option<Choice>
-    requires { (0 < left) × Searchable records.now.words.now area.old records.now.layout x left s × (m.0 < records.now.layout.modules) × Tight area.old s left m.0
+    requires { (0 < left) × Searchable records.now.words.now area.old records.now.layout x left s × (m.0 < records.now.layout.modules)
+        × Tight area.old s left m.0
         × ((module_rules (snap_by records.now area.old) x false m.0).found ≡ false) }
     ensures { Answered records.now.words.now area.old records.now.layout x s.top
         (search_local (snap_by records.now area.old) x left (levels_of area.old s.place s.depth) m.0)

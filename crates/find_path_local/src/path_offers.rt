@@ -42,7 +42,8 @@ pub fn importable_name(db: &Snapshot, x: FindPathCtx, item: Item, m: ModuleId) -
 
 // Whether the scope entry with its head at a place is one for the item that the viewer can import.
 fn names_importably(db: &Snapshot, x: FindPathCtx, item: Item, h: usize) -> bool
-    requires { (x.from.0 < db.now.records.layout.modules) × (2 ≤ (scope_at db.now.records.words.now h).visibility → (scope_at db.now.records.words.now h).number < db.now.records.layout.modules) }
+    requires { (x.from.0 < db.now.records.layout.modules) × (2 ≤ (scope_at db.now.records.words.now h).visibility
+        → (scope_at db.now.records.words.now h).number < db.now.records.layout.modules) }
     ensures { result ≡ names_importably (snap_in db.now) x item (scope_at db.now.records.words.now h) }
 {
     if item_at(&db.records, h) != item {
@@ -69,7 +70,8 @@ fn offer(
     n: Name,
     via: usize,
 ) -> Option<Choice>
-    requires { (n.0 < db.now.records.layout.names) × ((given best).count < 2 ^ 32) × ((given c).count < 16) × ((given c).path_text_len < 2 ^ 32) × ((given c).steps < 17) }
+    requires { (n.0 < db.now.records.layout.names) × ((given best).count < 2 ^ 32) × ((given c).count < 16) × ((given c).path_text_len < 2 ^ 32)
+        × ((given c).steps < 17) }
     ensures { given result ≡ offer_of (snap_in db.now) x (given best) (given c) n.0 via }
 {
     let Some(other) = c else {
@@ -86,7 +88,8 @@ pub fn offer_entry(
     c: Option<Choice>,
     h: usize,
 ) -> Option<Choice>
-    requires { ScopeFits (counts_in db.now.records.layout) (scope_at db.now.records.words.now h) × ((given best).count < 2 ^ 32) × ((given c).count < 16) × ((given c).path_text_len < 2 ^ 32) × ((given c).steps < 17) }
+    requires { ScopeFits (counts_in db.now.records.layout) (scope_at db.now.records.words.now h) × ((given best).count < 2 ^ 32)
+        × ((given c).count < 16) × ((given c).path_text_len < 2 ^ 32) × ((given c).steps < 17) }
     ensures { given result ≡ offer_entry (snap_in db.now) x (given best) (given c) (scope_at db.now.records.words.now h) }
 {
     let n = scope_name(db.records.words, h);
@@ -102,7 +105,8 @@ pub fn offer_import(
     c: Option<Choice>,
     h: usize,
 ) -> Option<Choice>
-    requires { ImportFits (counts_in db.now.records.layout) (import_at db.now.records.words.now h) × ((given best).count < 2 ^ 32) × ((given c).count < 16) × ((given c).path_text_len < 2 ^ 32) × ((given c).steps < 17) }
+    requires { ImportFits (counts_in db.now.records.layout) (import_at db.now.records.words.now h) × ((given best).count < 2 ^ 32)
+        × ((given c).count < 16) × ((given c).path_text_len < 2 ^ 32) × ((given c).steps < 17) }
     ensures { given result ≡ offer_import (snap_in db.now) x (given best) (given c) (import_at db.now.records.words.now h) }
 {
     let via = step_by(StepRule::Import, h);

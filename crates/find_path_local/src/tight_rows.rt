@@ -16,6 +16,7 @@ ghost use Rattle.find_path_local.specs.tight_rows.Rows.{last_place, row_of, row_
 ghost use Rattle.find_path_local.specs.tight_rows.Post.{Cleared, Farther, Tight};
 
 use crate::distances::Distances;
+use crate::near::Failures;
 use accept::opened::Snapshot;
 use find_path_choice::Choice;
 use find_path_choice::choices::{StepRule, step_by};
@@ -32,13 +33,13 @@ impl Rows {
     pub const AT: usize = 15872;
 }
 
-/// Nothing is known of the first `count` modules.
+/// Nothing is known of the first `count` modules, and no search has failed.
 // One row a module that there is, in an area with other tables on both sides: the count is not the slice's length.
 pub fn clear_rows(area: &mut Area, count: usize)
     requires { count ≤ module_limit }
     ensures { Cleared area.old count area.new }
 {
-    area[Rows::AT..Rows::AT + count].fill(0);
+    area[Failures::AT..Rows::AT + count].fill(0);
 }
 
 // Whether the item of the level with its run at a place is a module with a number up to `left`.
@@ -112,7 +113,8 @@ pub fn row_place(row: usize) -> usize
 /// The choice that a row stands for, from that for the module of its entry.
 // No `From`: a row becomes a choice by the snapshot only.
 pub fn from_row(db: &Snapshot, c: Choice, row: usize) -> Choice
-    requires { (2 ≤ row) × ScopeFits (counts_in db.now.records.layout) (scope_at db.now.records.words.now (row_place row)) × (c.count < 16) × (c.path_text_len < 2 ^ 32) × (c.steps < 17) }
+    requires { (2 ≤ row) × ScopeFits (counts_in db.now.records.layout) (scope_at db.now.records.words.now (row_place row)) × (c.count < 16)
+        × (c.path_text_len < 2 ^ 32) × (c.steps < 17) }
     ensures { chosen result ≡ extended (snap_in db.now) (chosen c) (scope_at db.now.records.words.now (row_place row)).name
         (step_by via_local (row_place row)) (row_flag row) }
 {

@@ -1,12 +1,13 @@
-use mathlib.Core.Path.{refl, ◌∙◌, ap}
+use mathlib.Core.Path.{refl, sym, ◌∙◌, ap}
 use native.Mathlib.Omega.{arith}
 use lib.ListN.{length-set}
 use Rattle.snapshot.specs.Records.{scope_at}
 use Rattle.find_path_levels.specs.Levels.{levels_of}
 use Rattle.find_path_levels.proofs.Stacks.{chain_wider}
+use Rattle.find_path_local.proofs.near.Falling.{kept, kept_rows, noted}
 use Rattle.find_path_local.proofs.Nests.{room, head_reads, head_walked, head_space, head_chain, start_few, nesting_start}
 use Rattle.find_path_local.proofs.Nests.{loop_size, nesting_call, nesting_known, nesting_next, nesting_done}
-use Rattle.find_path_local.proofs.Searches.{one_nothing, module_small, search_none, search_rules, search_on, unruled, location_far, location_none}
+use Rattle.find_path_local.proofs.Searches.{one_nothing, module_small, search_none, search_rules, unruled, location_far, location_none}
 use Rattle.find_path_local.proofs.Searches.{location_shorter, location_call, location_reads, location_few, location_text, location_steps}
 use Rattle.find_path_local.proofs.Searches.{location_some, entry_at, tight_none, made_asked, made_done, row_two, row_entered, owner_known}
 use Rattle.find_path_local.proofs.Searches.{owner_call, owner_reads, owner_found, owner_few, owner_steps, owner_text, owner_done}
@@ -58,26 +59,29 @@ find_path_for_module_local-invariant_of-sought t c = record {
   small = module_small c.args.records.now.words.now c.args.area.now c.args.records.now.layout c.requires.0.reads c.args.m.0 c.requires.1;
 }
 
-pub find_path_for_module_local-local_at-requires : goal.find_path_for_module_local-local_at-requires
-find_path_for_module_local-local_at-requires t c =
-    let h = c.if-left-eq0.false in (
-      omega (arith, c.decreases),
-      (
-        omega arith,
-        c.requires.0,
-      ),
-    )
+pub find_path_for_module_local-is_lost-requires : goal.find_path_for_module_local-is_lost-requires
+find_path_for_module_local-is_lost-requires t c = (c.requires.0, c.requires.1)
+
+pub find_path_for_module_local-returns-then-is_lost : goal.find_path_for_module_local-returns-then-is_lost
+find_path_for_module_local-returns-then-is_lost t c =
+    let f = c.is_lost.ensures in
+    record { same = sym (f.1 c.if-is_lost.true); below = f.0.below; rows = kept_rows c.requires.0 f.0 }
+
+pub find_path_for_module_local-local_at-r-requires : goal.find_path_for_module_local-local_at-r-requires
+find_path_for_module_local-local_at-r-requires t c =
+    let h = c.if-left-eq0.false in
+    (omega (arith, c.decreases), (omega arith, kept c.requires.0 c.is_lost.ensures.0 c.is_lost.auto.area))
+
+pub find_path_for_module_local-note-requires : goal.find_path_for_module_local-note-requires
+find_path_for_module_local-note-requires t c =
+    let y = c.requires.0 in
+    let h = c.if-left-eq0.false in
+    (omega (arith, y.space), omega (arith, y.area, c.is_lost.auto.area, c.local_at-r.auto.area))
 
 pub find_path_for_module_local-returns : goal.find_path_for_module_local-returns
 find_path_for_module_local-returns t c =
-    record {
-      same = search_on (snap_by c.args.records.now c.args.area.now) c.args.x c.args.left
-          (levels_of c.args.area.now c.args.s.place c.args.s.depth) c.args.m.0 c.if-left-eq0.false
-          (unruled (snap_by c.args.records.now c.args.area.now) c.args.x c.args.m.0 c.in_default.ensures) c.local_at.ensures.same;
-      below = c.local_at.ensures.below;
-      rows =
-          c.local_at.ensures.rows;
-    }
+    noted c.requires.0 c.is_lost.ensures.0 c.args.m.0 c.local_at-r.new.area _ c.if-left-eq0.false
+    (unruled (snap_by c.args.records.now c.args.area.now) c.args.x c.args.m.0 c.in_default.ensures) c.local_at-r.ensures c.note.ensures
 
 pub local_at-returns-then-left-eq1 : goal.local_at-returns-then-left-eq1
 local_at-returns-then-left-eq1 t c =
@@ -106,12 +110,15 @@ local_at-locations-n-requires t c = (
   c.requires.1.from,
   omega (arith, c.requires.1.numbers),
   head_space c.args.records.now.words.now c.args.area.now c.args.records.now.layout c.args.x
-      c.args.left c.args.sought.item c.args.s (omega (arith, c.requires.0, c.if-left-eq1.false)) c.requires.1 c.args.sought.small c.code_of-code.result
+      c.args.left c.args.sought.item c.args.s (omega (arith, c.requires.0, c.if-left-eq1.false)) c.requires.1 c.args.sought.small
+      c.code_of-code.result
       c.code_of-code.ensures.0,
   head_chain c.args.records.now.words.now c.args.area.now c.args.records.now.layout c.args.x c.args.left
-      c.args.sought.item c.args.s (omega (arith, c.requires.0, c.if-left-eq1.false)) c.requires.1 c.args.sought.small c.code_of-code.result c.code_of-code.ensures.0,
+      c.args.sought.item c.args.s (omega (arith, c.requires.0, c.if-left-eq1.false)) c.requires.1 c.args.sought.small c.code_of-code.result
+      c.code_of-code.ensures.0,
   head_walked c.args.records.now.words.now c.args.area.now c.args.records.now.layout c.args.x c.args.left
-      c.args.sought.item c.args.s (omega (arith, c.requires.0, c.if-left-eq1.false)) c.requires.1 c.args.sought.small c.code_of-code.result c.code_of-code.ensures.0,
+      c.args.sought.item c.args.s (omega (arith, c.requires.0, c.if-left-eq1.false)) c.requires.1 c.args.sought.small c.code_of-code.result
+      c.code_of-code.ensures.0,
 )
 
 pub local_at-overflow_add-up : goal.local_at-overflow_add-up
@@ -121,14 +128,16 @@ local_at-overflow_add-up t c =
       c.requires.1.space,
       c.requires.0,
       start_few c.args.records.now.words.now c.args.area.now c.args.records.now.layout c.args.x
-          c.args.left c.args.sought.item c.args.s (omega (arith, c.requires.0, c.if-left-eq1.false)) c.requires.1 c.args.sought.small c.code_of-code.result
+          c.args.left c.args.sought.item c.args.s (omega (arith, c.requires.0, c.if-left-eq1.false)) c.requires.1 c.args.sought.small
+          c.code_of-code.result
           c.code_of-code.ensures.0 _ _ c.locations-n.ensures c.locations-n.auto.area,
     )
 
 pub local_at-loop-k-init : goal.local_at-loop-k-init
 local_at-loop-k-init t c =
     nesting_start c.args.records.now.words.now c.args.area.now c.args.records.now.layout c.args.x c.args.left c.args.sought.item c.args.s
-    (omega (arith, c.requires.0, c.if-left-eq1.false)) c.requires.1 c.args.sought.small c.code_of-code.result c.code_of-code.ensures.0 _ _ c.locations-n.ensures
+    (omega (arith, c.requires.0, c.if-left-eq1.false)) c.requires.1 c.args.sought.small c.code_of-code.result c.code_of-code.ensures.0 _ _
+    c.locations-n.ensures
     c.locations-n.auto.area
 
 pub local_at-bounds-area-cursor : goal.local_at-bounds-area-cursor
@@ -139,7 +148,8 @@ local_at-bounds-area-cursor t c =
           c.args.s (omega (arith, c.requires.0, c.if-left-eq1.false)) c.requires.1 c.args.sought.small c.code_of-code.result c.code_of-code.ensures.0,
       loop_size
           c.args.records.now.words.now c.args.area.now c.args.records.now.layout c.args.x c.args.left c.args.sought.item c.args.s
-          (omega (arith, c.requires.0, c.if-left-eq1.false)) c.requires.1 c.args.sought.small c.code_of-code.result c.code_of-code.ensures.0 _ _ c.locations-n.ensures
+          (omega (arith, c.requires.0, c.if-left-eq1.false)) c.requires.1 c.args.sought.small c.code_of-code.result c.code_of-code.ensures.0 _ _
+          c.locations-n.ensures
           c.locations-n.auto.area c.loop-k.area c.loop-k.best c.loop-k.k c.loop-k.invariant,
     )
 
@@ -149,11 +159,13 @@ local_at-location-best-requires t c = (
   (
     c.requires.0,
     nesting_call c.args.records.now.words.now c.args.area.now c.args.records.now.layout c.args.x
-        c.args.left c.args.sought.item c.args.s (omega (arith, c.requires.0, c.if-left-eq1.false)) c.requires.1 c.args.sought.small c.code_of-code.result
+        c.args.left c.args.sought.item c.args.s (omega (arith, c.requires.0, c.if-left-eq1.false)) c.requires.1 c.args.sought.small
+        c.code_of-code.result
         c.code_of-code.ensures.0 _ _ c.locations-n.ensures c.locations-n.auto.area c.loop-k.area c.loop-k.best c.loop-k.k
         c.loop-k.invariant c.loop-k-test.true,
     nesting_known c.args.records.now.words.now c.args.area.now c.args.records.now.layout c.args.x
-        c.args.left c.args.sought.item c.args.s (omega (arith, c.requires.0, c.if-left-eq1.false)) c.requires.1 c.args.sought.small c.code_of-code.result
+        c.args.left c.args.sought.item c.args.s (omega (arith, c.requires.0, c.if-left-eq1.false)) c.requires.1 c.args.sought.small
+        c.code_of-code.result
         c.code_of-code.ensures.0 _ _ c.locations-n.ensures c.locations-n.auto.area c.loop-k.area c.loop-k.best c.loop-k.k
         c.loop-k.invariant c.loop-k-test.true c.word-m.ensures,
     omega (arith, c.loop-k.invariant.fits.few, c.requires.1.deep),
@@ -163,14 +175,16 @@ local_at-location-best-requires t c = (
 pub local_at-loop-k-preserved : goal.local_at-loop-k-preserved
 local_at-loop-k-preserved t c =
     nesting_next c.args.records.now.words.now c.args.area.now c.args.records.now.layout c.args.x c.args.left c.args.sought.item c.args.s
-    (omega (arith, c.requires.0, c.if-left-eq1.false)) c.requires.1 c.args.sought.small c.code_of-code.result c.code_of-code.ensures.0 _ _ c.locations-n.ensures
+    (omega (arith, c.requires.0, c.if-left-eq1.false)) c.requires.1 c.args.sought.small c.code_of-code.result c.code_of-code.ensures.0 _ _
+    c.locations-n.ensures
     c.locations-n.auto.area c.loop-k.area c.loop-k.best c.loop-k.k c.loop-k.invariant c.loop-k-test.true
     c.word-m.ensures _ c.location-best.ensures c.location-best.auto.area
 
 pub local_at-returns : goal.local_at-returns
 local_at-returns t c =
     nesting_done c.args.records.now.words.now c.args.area.now c.args.records.now.layout c.args.x c.args.left c.args.sought.item c.args.s
-    (omega (arith, c.requires.0, c.if-left-eq1.false)) c.requires.1 c.args.sought.small c.code_of-code.result c.code_of-code.ensures.0 _ _ c.locations-n.ensures
+    (omega (arith, c.requires.0, c.if-left-eq1.false)) c.requires.1 c.args.sought.small c.code_of-code.result c.code_of-code.ensures.0 _ _
+    c.locations-n.ensures
     c.locations-n.auto.area c.loop-k.area c.loop-k.best c.loop-k.k c.loop-k.invariant c.loop-k-test.false
 
 pub location-returns-then-j-word : goal.location-returns-then-j-word

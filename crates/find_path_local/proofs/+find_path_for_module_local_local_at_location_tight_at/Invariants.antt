@@ -18,4 +18,5 @@ decreases-tight_at l = 4 * l.left + 2
 
 abbrev pub invariant-local_at-loop-k : goal.invariant-local_at-loop-k
 invariant-local_at-loop-k l =
-    Nesting l.records.words.now l.records.layout (snap_by l.records l.initial.area) l.x l.left l.sought.item l.initial.area l.s l.n l.area (given l.best) l.k
+    Nesting l.records.words.now l.records.layout (snap_by l.records l.initial.area) l.x l.left l.sought.item l.initial.area l.s l.n l.area
+    (given l.best) l.k

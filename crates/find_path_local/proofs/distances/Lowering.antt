@@ -51,6 +51,9 @@ module _ {A B : List ℕ} where
     pub lowers_far : {n : ℕ} → Far n A → Far n B
     lowers_far h m q = let a = (h m q).1 in let b = f.less (table_words + m) in (f.some (table_words + m) (h m q).0, omega arith)
 
+pub lowers_on : (A B C : List ℕ) → Lowers A B → Lowers B C → Lowers A C
+lowers_on A B C f g = lowers_then f g
+
 pub lowers_same : (A : List ℕ) → Lowers A A
 lowers_same A = record { less = λ i. omega arith; some = λ i h. h; tables = refl }
 

@@ -28,7 +28,8 @@ use Rattle.module_tree.proofs.Reading.{crate_there, root_read}
 use Rattle.hir_def.specs.Finds.{select}
 use Rattle.hir_def.specs.Entries.{left_of, Meets, Ends}
 use Rattle.hir_def.specs.ItemScope.{is_module_entry, entry_module, modules_in_scope}
-use Rattle.hir_def.specs.Items.{types, module_kind, definition_of, crate_root, root_of, own_map, item_of, parent_of, crate_of, in_block, block_of, map_no}
+use Rattle.hir_def.specs.Items.{types, module_kind, definition_of, crate_root, root_of, own_map, item_of}
+use Rattle.hir_def.specs.Items.{parent_of, crate_of, in_block, block_of, map_no}
 use Rattle.hir_def.specs.Items.{module_item, defined_item}
 use Rattle.hir_def.specs.Nameres.{steps, steps_or, ancestor_maps, prelude_of}
 use Rattle.accept.proofs.Trees.{accepted_tree}
@@ -134,32 +135,35 @@ each_if {Q = Q} p (x ∷ xs) h = by (p x) refl (λ g. each_if p xs g) h
     by true e rec (more q g) = more (λ _. q) (rec g)
     by false e rec g = more (λ t. absurd (true≢false (sym t ∙ e))) (rec g)
 
--- the entries of a module, one after the other: what is shown of the rest, with lower numbers, gives it for all
-pub record Along (W A₀ : List ℕ) (l : Layout) (c : ℕ) (Q : List ℕ → Scope → Type 0) (A : List ℕ) (k : ℕ) : Type 0 where
-  pub lowers : Lowers A₀ A
-  pub size : length A ≡ length A₀
-  pub within : k ≤ l.scopes
-  pub follows : Follows (key_of W l Modules) c k
-  pub rest : (B : List ℕ) → Lowers A B → Each (Q B) (left_of (is_module_entry (snap_of W A₀ l) c) (λ i. scope_at W (scope_base l + scope_size * i)) l.scopes k)
-      → Each (Q B) (left_of (is_module_entry (snap_of W A₀ l) c) (λ i. scope_at W (scope_base l + scope_size * i)) l.scopes 0)
-
-module _ (W A₀ : List ℕ) (l : Layout) (c : ℕ) (Q : List ℕ → Scope → Type 0)
-    (down : (A B : List ℕ) → Lowers A B → (e : Scope) → Q A e → Q B e)
+-- the entries of a module, one after the other, in areas that are related: what is shown of the rest gives it for all
+pub record Along (R : List ℕ → List ℕ → Type 0) (W A₀ : List ℕ) (l : Layout) (c : ℕ) (Q : List ℕ → Scope → Type 0) (A : List ℕ) (k : ℕ) : Type 0
   where
-    pub along_start : Along W A₀ l c Q A₀ 0
-    along_start =
-        record { lowers = lowers_same A₀; size = refl; within = omega arith; follows = λ h. absurd (omega arith); rest = λ B f g. g }
+    pub moves : R A₀ A
+    pub size : length A ≡ length A₀
+    pub within : k ≤ l.scopes
+    pub follows : Follows (key_of W l Modules) c k
+    pub rest : (B : List ℕ) → R A B → Each (Q B) (left_of (is_module_entry (snap_of W A₀ l) c) (λ i. scope_at W (scope_base l + scope_size * i))
+        l.scopes k)
+        → Each (Q B) (left_of (is_module_entry (snap_of W A₀ l) c) (λ i. scope_at W (scope_base l + scope_size * i)) l.scopes 0)
 
-    module _ {A : List ℕ} {k : ℕ} (v : Along W A₀ l c Q A k) where
+module _ (R : List ℕ → List ℕ → Type 0) (stay : (A : List ℕ) → R A A) (on : (A B C : List ℕ) → R A B → R B C → R A C)
+    (W A₀ : List ℕ) (l : Layout) (c : ℕ) (Q : List ℕ → Scope → Type 0)
+    (down : (A B : List ℕ) → R A B → (e : Scope) → Q A e → Q B e)
+  where
+    pub along_start : Along R W A₀ l c Q A₀ 0
+    along_start =
+        record { moves = stay A₀; size = refl; within = omega arith; follows = λ h. absurd (omega arith); rest = λ B f g. g }
+
+    module _ {A : List ℕ} {k : ℕ} (v : Along R W A₀ l c Q A k) where
       pub along_next : {j h : ℕ} (B : List ℕ) → Meets (is_module_entry (snap_of W A₀ l) c) scope_at scope_size W (scope_base l) l.scopes k j h
-          → Lowers A B → Q B (scope_at W h) → length B ≡ length A → Along W A₀ l c Q B (j + 1)
+          → R A B → Q B (scope_at W h) → length B ≡ length A → Along R W A₀ l c Q B (j + 1)
       along_next {j} {h} B x f q z =
           record {
-            lowers = lowers_then v.lowers f;
+            moves = on A₀ A B v.moves f;
             size = z ∙ v.size;
             within = omega (arith, x.below);
             follows = λ _. met_follows W A₀ l c x (omega arith);
-            rest = λ C g t. v.rest C (lowers_then f g) (subst (Each (Q C)) (sym x.next) (more (down B C g (scope_at W h) q) t));
+            rest = λ C g t. v.rest C (on A B C f g) (subst (Each (Q C)) (sym x.next) (more (down B C g (scope_at W h) q) t));
           }
 
       pub along_done : Ends (is_module_entry (snap_of W A₀ l) c) scope_at scope_size W (scope_base l) l.scopes k
@@ -167,7 +171,7 @@ module _ (W A₀ : List ℕ) (l : Layout) (c : ℕ) (Q : List ℕ → Scope → 
       unfolding modules_in_scope
       along_done x =
           each_if (is_module_entry (snap_of W A₀ l) c) (snap_of W A₀ l).scopes
-          (subst (Each (Q A)) (sym (modules_whole W A₀ l c)) (v.rest A (lowers_same A) (subst (Each (Q A)) (sym x.none) Each.none)))
+          (subst (Each (Q A)) (sym (modules_whole W A₀ l c)) (v.rest A (stay A) (subst (Each (Q A)) (sym x.none) Each.none)))
 
 -- the entries of a scope are marked
 unfoldable pub marks : List ℕ → List ℕ → Layout → List ℕ → Scope → Type 0
@@ -314,7 +318,8 @@ module _ (W A₀ : List ℕ) (l : Layout) (x : FindPathCtx) (y : Ready W A₀ l)
   pub ready_cleared : Ready W A l
   ready_cleared = record { reads = same_reads W A₀ A l f.tables y.reads; area = z ∙ y.area }
 
-module _ (W A₀ : List ℕ) (l : Layout) (x : FindPathCtx) (y : Ready W A₀ l) (A₁' : List ℕ) (f₁' : Cleared A₀ l.modules A₁') (z₁' : length A₁' ≡ length A₀)
+module _ (W A₀ : List ℕ) (l : Layout) (x : FindPathCtx) (y : Ready W A₀ l) (A₁' : List ℕ) (f₁' : Cleared A₀ l.modules A₁')
+    (z₁' : length A₁' ≡ length A₀)
     (A₁ : List ℕ) (f₁ : Lowers A₁' A₁ × Rooted (snap_of W A₁' l) l A₁) (z₁ : length A₁ ≡ length A₁') where
   abbrev T : List ℕ → Snapshot
   T A = snap_of W A l

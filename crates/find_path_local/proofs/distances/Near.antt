@@ -21,7 +21,8 @@ use Rattle.hir_def.proofs.Fresh.{preferred_has}
 use Rattle.find_path_choice.specs.Choices.{Choice}
 use Rattle.find_path_spec.specs.declared.FindPathCtx.{FindPathCtx}
 use Rattle.find_path_choice.specs.Choices.{nothing}
-use Rattle.find_path_spec.specs.Rules.{first_found, single, find_in_scope, may_be_in_scope, scope_rule, is_usable, prelude_entry, in_prelude, find_in_prelude}
+use Rattle.find_path_spec.specs.Rules.{first_found, single, find_in_scope, may_be_in_scope, scope_rule}
+use Rattle.find_path_spec.specs.Rules.{is_usable, prelude_entry, in_prelude, find_in_prelude}
 use Rattle.find_path_spec.specs.Rules.{prelude_rule, root_rule, module_rules}
 use Rattle.snapshot.specs.Lists.{any}
 use Rattle.find_path_spec.specs.Walk.{has, visited}
@@ -30,6 +31,10 @@ use Rattle.read_back.proofs.Exact.{same_item_lem}
 use Rattle.find_path_spec.specs.laws.Near.{is_some, imports, locations, near}
 use Rattle.find_path_spec.proofs.laws.Near.{near_cases}
 use Rattle.find_path_local.specs.distances.Distances.{Bounds, Named, Stepped, Ruled, Answering, walk, Onward, Closed}
+
+pub some_is : (o : Option Scope) → is_some o ≡ true → (e : Scope) × (o ≡ Some e)
+some_is None h = absurd (false≢true h)
+some_is (Some e) h = (e, refl)
 
 -- what is found in a list has what all of it have, and passes the test
 first_each : {A : Type 0} {P : A → Type 0} (p : A → Bool) {xs : List A} (y : A) → Each P xs → first_of p xs ≡ Some y → P y × (p y ≡ true)
@@ -139,7 +144,8 @@ module _ (s : Snapshot) (x : FindPathCtx) where
         some_each (entry_in s (module_item m) x.ignore_local_imports x.fresh) e
         (λ a all k. let f = entry_for (Named s d a) all a m x.ignore_local_imports x.fresh e k in f.0 m f.1 f.2) (r.scope t) h
 
-    in_prelude_lem : (m : ℕ) (e : Scope) (o : Option Prelude) → prelude_of s (map_no s x.from.0) ≡ o → in_prelude s x (module_item m) o ≡ Some e → d m ≤ 1
+    in_prelude_lem : (m : ℕ) (e : Scope) (o : Option Prelude) → prelude_of s (map_no s x.from.0) ≡ o → in_prelude s x (module_item m) o ≡ Some e
+        → d m ≤ 1
     unfolding in_prelude Named
     in_prelude_lem m e None q h = let z : ◌≡◌ {A = ℕ} 0 1 = cc in absurd (omega arith)
     in_prelude_lem m e (Some p) q h =
@@ -160,10 +166,6 @@ module _ (s : Snapshot) (x : FindPathCtx) where
         (first_cases _ _ h)
 
   module _ (n : ℕ) (d : ℕ → ℕ) (c : Closed s x n d) (owners : Each (λ e. e.owner < n) s.scopes) where
-    some_is : (o : Option Scope) → is_some o ≡ true → (e : Scope) × (o ≡ Some e)
-    some_is None h = absurd (false≢true h)
-    some_is (Some e) h = (e, refl)
-
     -- a module that it can be imported from
     import_step_lem : (m a : ℕ) → imports s x m a ≡ true → has (walk s x) a ≡ true → (a < n) × (d m ≤ d a + 1)
     unfolding imports importable_name Stepped

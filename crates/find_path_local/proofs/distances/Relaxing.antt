@@ -98,7 +98,8 @@ module _ (s : Snapshot) (x : FindPathCtx) (A : List ℕ) (d : ℕ) (e : Scope) {
       → Nearer s x (distance A) d e
   unfolding Nearer imports
   nearer_hidden {c} W p f n i =
-      absurd (true≢false (sym i ∙ ap₂ (λ y z. is_some (importable_name s x (module_item y) z)) (sym q) (sym p) ∙ ap is_some (sym f ∙ ap (entry_of scope_at W) n)))
+      absurd (true≢false (sym i ∙ ap₂ (λ y z. is_some (importable_name s x (module_item y) z)) (sym q) (sym p)
+      ∙ ap is_some (sym f ∙ ap (entry_of scope_at W) n)))
 
   pub nearer_here : length A ≡ area_limit → m < module_limit → 0 < d → d < distance A m → Nearer s x (distance (set A (table_words + m) d)) d e
   unfolding Nearer
@@ -106,7 +107,8 @@ module _ (s : Snapshot) (x : FindPathCtx) (A : List ℕ) (d : ℕ) (e : Scope) {
       subst (λ y. distance (set A (table_words + m) d) y ≤ d) q (omega (arith, set_here A m d size known some more))
 
 -- of lower numbers
-pub nearer_down : (s : Snapshot) (x : FindPathCtx) (d : ℕ) (A B : List ℕ) → Lowers A B → (e : Scope) → Nearer s x (distance A) d e → Nearer s x (distance B) d e
+pub nearer_down : (s : Snapshot) (x : FindPathCtx) (d : ℕ) (A B : List ℕ) → Lowers A B → (e : Scope) → Nearer s x (distance A) d e
+    → Nearer s x (distance B) d e
 unfolding Nearer
 nearer_down s x d A B f e q i = let a = q i in let b = distances_less f (entry_module s e) in omega arith
 
@@ -138,7 +140,7 @@ module _ (s : Snapshot) (x : FindPathCtx) (A : List ℕ) (m d : ℕ) {w : ℕ} (
       }
 
 -- one module more of a list
-has_more : {P : Type 0} (ms : List ℕ) (m i : ℕ) → (has ms i ≡ true → P) → (i ≡ m → P) → has (ms ++ (m ∷ [])) i ≡ true → P
+pub has_more : {P : Type 0} (ms : List ℕ) (m i : ℕ) → (has ms i ≡ true → P) → (i ≡ m → P) → has (ms ++ (m ∷ [])) i ≡ true → P
 has_more ms m i f g h =
     by_test (has ms i) f (λ t. g (eqb-true i m (sym (ap (λ b. b || eqb i m) t) ∙ sym (has_snoc ms m i) ∙ h)))
 
@@ -189,7 +191,8 @@ walked_beyond s from A B w h =
     record {
       same =
           ap (run_at B walk_at) q
-          ∙ rows_ext (λ i. get_or B (walk_at + i) 0) (λ i. get_or A (walk_at + i) 0) (get_or A walk_count 0) (λ i _. h (walk_at + i) (omega arith)) ∙ w.same;
+          ∙ rows_ext (λ i. get_or B (walk_at + i) 0) (λ i. get_or A (walk_at + i) 0) (get_or A walk_count 0)
+          (λ i _. h (walk_at + i) (omega arith)) ∙ w.same;
       few = omega (arith, q, w.few);
     }
 
@@ -199,7 +202,8 @@ pub walk_known : (W A : List ℕ) (l : Layout) (from k n : ℕ) {m : ℕ} → Re
 walk_known W A l from k n {m} r f w c h e =
     let g : ℕ → ℕ = λ i. get_or A (walk_at + i) 0 in
     let a = locations_there W A l r from (λ _. false) f in
-    let b : Each (λ i. i < l.modules) (run_at A walk_at n) = subst (λ z. Each (λ i. i < l.modules) (run_at A walk_at z)) (sym c) (subst (Each (λ i. i < l.modules)) (sym w.same) a) in
+    let b : Each (λ i. i < l.modules) (run_at A walk_at n) = subst (λ z. Each (λ i. i < l.modules) (run_at A walk_at z)) (sym c)
+    (subst (Each (λ i. i < l.modules)) (sym w.same) a) in
     subst (λ i. i < l.modules) (sym e) (each_rows g n k b h)
 
 -- the record k
@@ -361,7 +365,8 @@ module _ (W A : List ℕ) (l : Layout) (x : FindPathCtx) (m : ℕ) (room : table
       marks B r f =
           record {
             far = λ n h.
-                by_same n m (λ e. subst (λ z. (0 < distance Without z) × (distance Without z ≤ 16)) (sym e) (omega (arith, here), omega (arith, here)))
+                by_same n m (λ e. subst (λ z. (0 < distance Without z) × (distance Without z ≤ 16)) (sym e)
+                (omega (arith, here), omega (arith, here)))
                 (λ o. let p = others n o in let a = f.far n h in (omega (arith, p, a.0), omega (arith, p, a.1)));
             answers = λ n h t.
                 by_same n m

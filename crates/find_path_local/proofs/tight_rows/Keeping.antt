@@ -2,9 +2,9 @@
 use Prim.Native.Nat.{ℕ, suc, ◌+◌, ◌-◌, ◌*◌, ◌/◌, ◌%◌, ◌≤◌, ◌<◌}
 use mathlib.Core.Path.{◌≡◌, refl, sym, ap, ap₂, subst, ◌∙◌}
 use mathlib.Core.List.{List, [], ◌++◌}
-use mathlib.Core.Bool.{Bool, true, false, false≢true}
+use mathlib.Core.Bool.{Bool, true, false}
 use mathlib.Core.Logic.{⊎_elim}
-use Rattle.std.specs.Prelude.{Option, None, Some}
+use Rattle.std.specs.Prelude.{Option, Some}
 use native.Mathlib.Omega.{arith}
 use borrow.Rule.Slice.PartMut.{put_mid}
 use Rattle.std.proofs.lemmas.Slice.{take-put_mid_below}
@@ -33,16 +33,18 @@ use Rattle.find_path_spec.specs.Local.{importable_name}
 use Rattle.find_path_spec.specs.Search.{search_local}
 use Rattle.find_path_spec.proofs.laws.Bounds.{Fits, search_local_fits}
 use Rattle.find_path_spec.proofs.laws.Tables.{same_snap}
-use Rattle.find_path_spec.specs.laws.Near.{is_some, ruled, locations, imports, near}
+use Rattle.find_path_spec.specs.laws.Near.{ruled, locations, imports, near}
 use Rattle.find_path_spec.proofs.laws.Fewer.{tested, refuted}
 use Rattle.find_path_spec.proofs.laws.Near.{unfound_nothing}
 use Rattle.find_path_spec.proofs.laws.Kept.{Made, made}
 use Rattle.find_path_local.specs.distances.Distances.{distance, distances_end}
 use Rattle.find_path_levels.proofs.Rows.{agree, take_less}
 use Rattle.find_path_local.proofs.distances.Lowering.{rows_each}
-use Rattle.find_path_local.proofs.distances.Near.{import_for}
+use Rattle.find_path_local.proofs.distances.Near.{some_is, import_for}
+use Rattle.find_path_local.specs.near.Numbers.{failures_at}
 use Rattle.find_path_local.specs.tight_rows.Post.{Cleared}
-use Rattle.find_path_local.specs.tight_rows.Rows.{rows_at, row_at, flag_number, last_place, row_if, row_of, row_place, row_flag, flagged, Entered, Row, Rows}
+use Rattle.find_path_local.specs.tight_rows.Rows.{rows_at, row_at, flag_number, last_place, row_if, row_of, row_place}
+use Rattle.find_path_local.specs.tight_rows.Rows.{row_flag, flagged, Entered, Row, Rows}
 
 -- the number of a row gives its place and its flag back
 module _ (h : ℕ) where
@@ -94,10 +96,6 @@ last_place_lem s c n h b w o =
     let g : (h * 8 + 6) / 8 ≡ h = omega arith in
     ap (λ z. get_or (set c.route c.steps (h * 8 + 6)) z 0 / 8) q
     ∙ ap (λ z. z / 8) (get_or-set_same c.route c.steps (h * 8 + 6) 0 (omega (arith, w))) ∙ g
-
-some_is : (o : Option Scope) → is_some o ≡ true → (e : Scope) × (o ≡ Some e)
-some_is None h = absurd (false≢true h)
-some_is (Some e) h = (e, refl)
 
 -- a choice as a row gives it back
 
@@ -263,14 +261,18 @@ pub rows_none : (W A : List ℕ) (l : Layout) (x : FindPathCtx) → ((m : ℕ) �
 rows_none W A l x z m h = record { nowhere = λ q. absurd (omega (arith, z m h, q)); somewhere = λ q. absurd (omega (arith, z m h, q)) }
 
 -- clearing
-pub cleared_all : (A ys : List ℕ) (n k j : ℕ) → k ≡ n → j ≡ n → ys ≡ replicate j 0 → rows_at + n ≤ length A → Cleared A n (put_mid rows_at k A ys)
+pub cleared_all : (A ys : List ℕ) (n k j : ℕ) → k ≡ n + 1 → j ≡ n + 1 → ys ≡ replicate j 0 → rows_at + n ≤ length A
+    → Cleared A n (put_mid failures_at k A ys)
 cleared_all A ys n k j q p e h =
-    let R = drop k (drop rows_at A) in
-    let l : length (take rows_at A) ≡ rows_at = length-take-le rows_at A (omega arith) in
+    let R = drop k (drop failures_at A) in
+    let l : length (take failures_at A) ≡ failures_at = length-take-le failures_at A (omega arith) in
     record {
       none = λ m o.
-          ap (λ j. get_or (take rows_at A ++ (ys ++ R)) (j + m) 0) (sym l) ∙ get_or-append-add (take rows_at A) (ys ++ R) m 0
-          ∙ ap (λ z. get_or (z ++ R) m 0) (e ∙ ap (λ i. replicate i 0) p) ∙ get_or-append (replicate n 0) R 0 m (simp length-replicate o)
-          ∙ get_or-replicate n m 0 0 o;
-      below = take-put_mid_below rows_at k A ys rows_at (omega arith) (omega arith);
+          let i : rows_at + m ≡ failures_at + (m + 1) = omega arith in
+          let g : m + 1 < n + 1 = omega arith in
+          ap (λ j. get_or (take failures_at A ++ (ys ++ R)) j 0) (i ∙ ap (λ j. j + (m + 1)) (sym l))
+          ∙ get_or-append-add (take failures_at A) (ys ++ R) (m + 1) 0
+          ∙ ap (λ z. get_or (z ++ R) (m + 1) 0) (e ∙ ap (λ i. replicate i 0) p)
+          ∙ get_or-append (replicate (n + 1) 0) R 0 (m + 1) (simp length-replicate g) ∙ get_or-replicate (n + 1) (m + 1) 0 0 g;
+      below = take-put_mid_below failures_at k A ys failures_at (omega arith) (omega arith);
     }

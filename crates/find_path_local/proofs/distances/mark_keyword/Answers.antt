@@ -8,5 +8,6 @@ use Rattle.find_path_local.proofs.distances.mark_keyword.Goals as goal
 pub returns-else-is_some : goal.returns-else-is_some
 returns-else-is_some c = (
   lowers_same _,
-  λ e. absurd (true≢false (sym e ∙ sym (ap (λ (z : Choice). z.found) c.keyword_rule.ensures) ∙ sym (given_some _) ∙ sym c.is_some.ensures ∙ c.if-is_some.false)),
+  λ e. absurd (true≢false (sym e ∙ sym (ap (λ (z : Choice). z.found) c.keyword_rule.ensures) ∙ sym (given_some _) ∙ sym c.is_some.ensures
+      ∙ c.if-is_some.false)),
 )

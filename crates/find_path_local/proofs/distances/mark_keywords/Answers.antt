@@ -9,7 +9,10 @@ use Rattle.find_path_local.proofs.distances.Marking.{keywords_one, keywords_two,
 use Rattle.find_path_local.proofs.distances.mark_keywords.Goals as goal
 
 pub invariant_of-db : goal.invariant_of-db
-invariant_of-db c = record { reads = (lowers_ready c.args.records.now.words.now c.args.records.now.layout c.mark_keyword.ensures.0 c.requires.0 (c.mark_keyword.array_long ∙ sym c.told-area)).reads }
+invariant_of-db c = record {
+  reads = (lowers_ready c.args.records.now.words.now c.args.records.now.layout c.mark_keyword.ensures.0 c.requires.0
+      (c.mark_keyword.array_long ∙ sym c.told-area)).reads;
+}
 
 pub returns-in_default : goal.returns-in_default
 returns-in_default c =

@@ -22,7 +22,8 @@ mark-requires c =
 pub loop-c-preserved : goal.loop-c-preserved
 loop-c-preserved c =
     rooting_next c.args.records.now.words.now c.args.area.now c.args.records.now.layout c.requires.reads c.loop-c.area c.loop-c.c c.loop-c.invariant
-    c.mark.new.area c.loop-c-test.true (c.root-r.ensures ∙ ap (root_of (snap_of c.args.records.now.words.now c.loop-c.area c.args.records.now.layout)) c.own.ensures.0)
+    c.mark.new.area c.loop-c-test.true (c.root-r.ensures ∙ ap
+    (root_of (snap_of c.args.records.now.words.now c.loop-c.area c.args.records.now.layout)) c.own.ensures.0)
     c.mark.ensures (omega (arith, c.mark.array_long, c.told-area, c.loop-c.invariant.size))
 
 pub returns : goal.returns

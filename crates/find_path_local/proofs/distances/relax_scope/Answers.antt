@@ -6,7 +6,8 @@ use Rattle.hir_def.proofs.Lookups.{next_record, next_none}
 use Rattle.hir_def.proofs.Fits.{few_words, module_meets}
 use Rattle.hir_def.proofs.item_scope.Along.{met_below}
 use Rattle.find_path_local.specs.distances.Distances.{distance, Nearer}
-use Rattle.find_path_local.proofs.distances.Lowering.{lowers_ready, lowers_snap}
+use Rattle.find_path_local.specs.distances.Post.{Lowers}
+use Rattle.find_path_local.proofs.distances.Lowering.{lowers_same, lowers_on, lowers_ready, lowers_snap}
 use Rattle.find_path_local.proofs.distances.Marking.{along_start, along_next, along_done}
 use Rattle.find_path_local.proofs.distances.Relaxing.{steps_none, steps_then, nearer_down, opened_all}
 use Rattle.find_path_local.proofs.distances.relax_scope.Goals as goal
@@ -16,13 +17,16 @@ loop-next-init c =
     let W = c.args.records.now.words.now in
     let A = c.args.area.now in
     let s = snap_of W A c.args.records.now.layout in (
-      along_start W A c.args.records.now.layout c.args.m.0 (λ B. Nearer s c.args.x (distance B) c.args.d) (nearer_down s c.args.x c.args.d),
+      along_start Lowers lowers_same lowers_on W A c.args.records.now.layout c.args.m.0 (λ B. Nearer s c.args.x (distance B) c.args.d)
+          (nearer_down s c.args.x c.args.d),
       steps_none A c.args.d,
     )
 
 pub invariant_of-db : goal.invariant_of-db
 invariant_of-db c = record {
-  reads = (lowers_ready c.args.records.now.words.now c.args.records.now.layout c.loop-next.invariant.0.lowers c.requires.0 c.loop-next.invariant.0.size).reads;
+  reads =
+      (lowers_ready c.args.records.now.words.now c.args.records.now.layout c.loop-next.invariant.0.moves c.requires.0
+      c.loop-next.invariant.0.size).reads;
 }
 
 pub modules_in_scope-requires : goal.modules_in_scope-requires
@@ -37,7 +41,7 @@ relax_entry-r-requires c =
     let x = next_record (c.modules_in_scope.ensures A) c.in-Some.is in
     let B = c.loop-next.area in
     let y = next_record (c.modules_in_scope.ensures B) c.in-Some.is in
-    let r = lowers_ready W l v.lowers c.requires.0 v.size in (
+    let r = lowers_ready W l v.moves c.requires.0 v.size in (
       r,
       c.requires.1,
       module_meets W A l c.requires.0.reads x,
@@ -68,9 +72,12 @@ loop-next-preserved c =
     let x = next_record (c.modules_in_scope.ensures A) c.in-Some.is in
     let f = c.relax_entry-r.ensures in
     let B = c.relax_entry-r.new.area in
-    let q = subst (λ (z : Snapshot). Nearer z c.args.x (distance B) c.args.d (scope_at W c.in-Some.next.head)) (lowers_snap W l v.lowers c.requires.0.reads) f.1 in (
-      along_next W A l c.args.m.0 (λ B. Nearer s c.args.x (distance B) c.args.d) (nearer_down s c.args.x c.args.d) v B x f.0.lowers q
-          (omega (arith, c.relax_entry-r.array_long, c.told-area, v.size)),
+    let q =
+    subst (λ (z : Snapshot). Nearer z c.args.x (distance B) c.args.d (scope_at W c.in-Some.next.head))
+    (lowers_snap W l v.moves c.requires.0.reads) f.1
+    in (
+      along_next Lowers lowers_same lowers_on W A l c.args.m.0 (λ B. Nearer s c.args.x (distance B) c.args.d) (nearer_down s c.args.x c.args.d) v B
+          x f.0.lowers q (omega (arith, c.relax_entry-r.array_long, c.told-area, v.size)),
       steps_then c.loop-next.invariant.1 f.0,
     )
 
@@ -82,6 +89,6 @@ returns-in_default c =
     let s = snap_of W A l in (
       c.loop-next.invariant.1,
       opened_all s c.args.x c.args.m.0 c.args.d c.loop-next.area
-          (along_done W A l c.args.m.0 (λ B. Nearer s c.args.x (distance B) c.args.d) (nearer_down s c.args.x c.args.d) c.loop-next.invariant.0
-          (next_none (c.modules_in_scope.ensures A) c.in_default.is)),
+          (along_done Lowers lowers_same lowers_on W A l c.args.m.0 (λ B. Nearer s c.args.x (distance B) c.args.d)
+          (nearer_down s c.args.x c.args.d) c.loop-next.invariant.0 (next_none (c.modules_in_scope.ensures A) c.in_default.is)),
     )

@@ -1,0 +1,3 @@
+pub mod Falling
+pub mod Turning
+pub mod Closed
