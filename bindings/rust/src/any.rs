@@ -3,6 +3,7 @@ use std::fmt;
 
 use crate::area::{self, WorkArea};
 use crate::ids::{DefinitionId, ModuleId, NameId, Namespace};
+use crate::names::PathNames;
 use crate::path::PathKind;
 use crate::refusal::Refusal;
 use crate::snapshot::Snapshot;
@@ -22,30 +23,22 @@ pub enum AnyPath {
 }
 
 /// A shortest path, as the compiler reads it in the viewing module. It prints as it would stand there, keywords of its crate's edition with `r#`.
-#[derive(Clone, Debug, PartialEq, Eq, Hash)]
+/// It outlives its snapshot. Two are the same where they are written the same and came about in the same way, also of two snapshots.
+#[derive(Clone, PartialEq, Eq, Hash)]
 pub struct ShortestPath {
     kind: PathKind,
     supers: usize,
-    ids: Box<[NameId]>,
-    names: Box<[Text]>,
-    written: Box<[Vec<u8>]>,
+    names: PathNames,
     route: Box<[u32]>,
 }
 
 impl ShortestPath {
     fn new(snapshot: &Snapshot, from: ModuleId, any: &sys::Any) -> Self {
         let [_, kind, supers, count] = any.head;
-        let (names, route) = (&any.names[..count], &any.route[..count]);
-        let kind = PathKind::from_number(u32::try_from(kind).expect("a path's kind"));
-        let edition = snapshot.edition(from).expect("a path is seen from a module of its snapshot");
-        let number = |name: &usize| NameId(u32::try_from(*name).expect("a path has names of its snapshot"));
-        let ids: Box<[NameId]> = names.iter().map(number).collect();
-        let text = |name: &NameId| snapshot.name(*name).expect("a path has names of its snapshot");
-        let names: Box<[Text]> = ids.iter().map(text).collect();
-        let written = ids.iter().zip(&names).map(|(name, text)| snapshot.written(*name, text, edition)).collect();
-        let place = |word: &usize| u32::try_from(*word).expect("a record stands in its snapshot");
-        let route = route.iter().map(place).collect();
-        ShortestPath { kind, supers, ids, names, written, route }
+        let number = |number: usize| u32::try_from(number).expect("a number of a snapshot");
+        let names = PathNames::new(snapshot, from, any.names.map(number), count);
+        let route = any.route[..count].iter().map(|place| number(*place)).collect();
+        ShortestPath { kind: PathKind::from_number(number(kind)), supers, names, route }
     }
 
     /// What it begins with; [`PathKind::Super`] may stand there several times.
@@ -63,18 +56,18 @@ impl ShortestPath {
     /// The numbers of its names in its snapshot.
     #[must_use]
     pub fn ids(&self) -> impl ExactSizeIterator<Item = NameId> + '_ {
-        self.ids.iter().copied()
+        self.names.ids()
     }
 
     /// The texts of its names, without `r#`.
     #[must_use]
     pub fn names(&self) -> impl ExactSizeIterator<Item = &Text> + '_ {
-        self.names.iter()
+        self.names.texts()
     }
 
     /// Its names as they are written in the viewing module, keywords with `r#`.
     pub fn written(&self) -> impl ExactSizeIterator<Item = &[u8]> + '_ {
-        self.written.iter().map(Vec::as_slice)
+        self.names.written()
     }
 
     /// How it is read: for each name the word at which the record begins that it is read by, a scope or extern record, or for a variant its
@@ -99,15 +92,19 @@ impl ShortestPath {
     /// The path as it is written.
     #[must_use]
     pub fn to_bytes(&self) -> Vec<u8> {
-        let mut parts: Vec<&[u8]> = self.start().into_iter().map(str::as_bytes).collect();
-        parts.extend(self.written());
-        parts.join(&b"::"[..])
+        self.names.after(self.start())
     }
 }
 
 impl fmt::Display for ShortestPath {
     fn fmt(&self, f: &mut fmt::Formatter<'_>) -> fmt::Result {
         f.pad(&String::from_utf8_lossy(&self.to_bytes()))
+    }
+}
+
+impl fmt::Debug for ShortestPath {
+    fn fmt(&self, f: &mut fmt::Formatter<'_>) -> fmt::Result {
+        write!(f, "ShortestPath({self})")
     }
 }
 

@@ -48,6 +48,7 @@ mod edits;
 mod ids;
 mod imports;
 mod join;
+mod names;
 mod path;
 mod question;
 mod reach;

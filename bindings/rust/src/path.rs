@@ -2,9 +2,9 @@
 use std::fmt;
 use std::hash::{Hash, Hasher};
 
-use crate::ids::{ModuleId, NameId};
+use crate::ids::NameId;
+use crate::names::PathNames;
 use crate::route::Step;
-use crate::snapshot::Snapshot;
 use crate::text::Text;
 
 /// What a path begins with.
@@ -59,15 +59,13 @@ impl fmt::Display for PathKind {
 }
 
 /// A path that names the item of a question. It prints as it would stand in the viewing module, keywords of its crate's edition with
-/// `r#`. It outlives its snapshot.
+/// `r#`. It outlives its snapshot, whose names it shares: no text is copied, and the first to ask for one has it read.
 #[derive(Clone)]
 pub struct Path {
+    names: PathNames,
     kind: PathKind,
-    ids: Box<[NameId]>,
-    names: Box<[Text]>,
-    /// The names as they are written in the viewing module.
-    written: Box<[Vec<u8>]>,
-    route: Box<[Step]>,
+    steps: u8,
+    route: [u32; Path::MAX_STEPS],
 }
 
 impl Path {
@@ -77,20 +75,14 @@ impl Path {
     /// Steps of its route, at most.
     pub const MAX_STEPS: usize = 17;
 
-    /// The path of a report on a question that was asked from a module.
-    pub(crate) fn new(snapshot: &Snapshot, from: ModuleId, kind: u32, names: &[u32], route: &[u32]) -> Self {
-        let edition = snapshot.edition(from).expect("a path is seen from a module of its snapshot");
-        let ids: Box<[NameId]> = names.iter().map(|name| NameId(*name)).collect();
-        let text = |name: &NameId| snapshot.name(*name).expect("a path has names of its snapshot");
-        let names: Box<[Text]> = ids.iter().map(text).collect();
-        let written = ids.iter().zip(&names).map(|(name, text)| snapshot.written(*name, text, edition)).collect();
-        Path {
-            kind: PathKind::from_number(kind),
-            ids,
-            names,
-            written,
-            route: route.iter().map(|word| Step::new(*word)).collect(),
-        }
+    /// A path with so many steps of the route.
+    pub(crate) fn new(names: PathNames, kind: u32, route: [u32; Path::MAX_STEPS], steps: u32) -> Self {
+        let steps = u8::try_from(steps).expect("as many steps as a route may have");
+        Path { names, kind: PathKind::from_number(kind), steps, route }
+    }
+
+    fn route_words(&self) -> &[u32] {
+        &self.route[..self.steps as usize]
     }
 
     /// What it begins with.
@@ -102,46 +94,44 @@ impl Path {
     /// The numbers of its names in its snapshot.
     #[must_use]
     pub fn ids(&self) -> impl ExactSizeIterator<Item = NameId> + '_ {
-        self.ids.iter().copied()
+        self.names.ids()
     }
 
     /// The texts of its names, without `r#`.
     #[must_use]
     pub fn names(&self) -> impl ExactSizeIterator<Item = &Text> + '_ {
-        self.names.iter()
+        self.names.texts()
     }
 
     /// Its names as they are written in the viewing module, keywords with `r#`.
     pub fn written(&self) -> impl ExactSizeIterator<Item = &[u8]> + '_ {
-        self.written.iter().map(Vec::as_slice)
+        self.names.written()
     }
 
     /// How it came about: a step for its start, which is a keyword without names, or its first name with any prefix; then one for
     /// each further name.
     #[must_use]
     pub fn route(&self) -> impl ExactSizeIterator<Item = Step> + '_ {
-        self.route.iter().copied()
+        self.route_words().iter().map(|word| Step::new(*word))
     }
 
     /// Whether `use` and the path make a line: not where it is `self`, `super` or `crate` alone, which brings in no name.
     #[must_use]
     pub fn is_use_line(&self) -> bool {
-        !self.ids.is_empty()
+        self.names.ids().len() != 0
     }
 
     /// The path as the path printer prints it.
     #[must_use]
     pub fn to_bytes(&self) -> Vec<u8> {
-        let mut parts: Vec<&[u8]> = self.kind.part().map(str::as_bytes).into_iter().collect();
-        parts.extend(self.written());
-        parts.join(&b"::"[..])
+        self.names.after(self.kind.part())
     }
 }
 
 /// Paths are the same where they are written the same and came about in the same way, also of two snapshots.
 impl PartialEq for Path {
     fn eq(&self, other: &Self) -> bool {
-        self.kind == other.kind && self.written == other.written && self.route == other.route
+        self.kind == other.kind && self.route_words() == other.route_words() && self.names == other.names
     }
 }
 
@@ -149,7 +139,7 @@ impl Eq for Path {}
 
 impl Hash for Path {
     fn hash<H: Hasher>(&self, state: &mut H) {
-        (self.kind, &self.written, &self.route).hash(state);
+        (self.kind, &self.names, self.route_words()).hash(state);
     }
 }
 

@@ -2,6 +2,7 @@
 use std::fmt;
 
 use crate::ids::ModuleId;
+use crate::names::PathNames;
 use crate::path::Path;
 use crate::refusal::Refusal;
 use crate::snapshot::Snapshot;
@@ -79,12 +80,12 @@ pub struct Report {
 
 impl Report {
     /// The report on a question that was asked from a module.
-    pub(crate) fn new(snapshot: &Snapshot, from: ModuleId, words: [u32; sys::REPORT]) -> Self {
-        let [outcome, number, kind, rest @ ..] = words;
-        let (names, rest) = rest.split_at(Path::MAX_NAMES);
-        let [count, charges, empty, left, sought, steps, route @ ..]: [u32; 6 + Path::MAX_STEPS] =
+    pub(crate) fn new(snapshot: &Snapshot, from: ModuleId, words: &[u32; sys::REPORT]) -> Self {
+        let &[outcome, number, kind, ref rest @ ..] = words;
+        let (names, rest) = rest.split_first_chunk().expect("as many as a report has");
+        let &[count, charges, empty, left, sought, steps, ref route @ ..]: &[u32; 6 + Path::MAX_STEPS] =
             rest.try_into().expect("as many as a report has");
-        let path = || Path::new(snapshot, from, kind, &names[..count as usize], &route[..steps as usize]);
+        let path = || Path::new(PathNames::new(snapshot, from, *names, count as usize), kind, *route, steps);
         let outcome = match (outcome, empty) {
             (0, 0) => Outcome::Found(path()),
             (1, 0) => Outcome::NoPath,

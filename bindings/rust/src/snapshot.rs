@@ -1,8 +1,10 @@
 //! A checked snapshot.
+use std::sync::Arc;
 use std::sync::atomic::{AtomicU64, Ordering};
 
 use crate::area::{self, WorkArea};
 use crate::ids::{ModuleId, NameId};
+use crate::names::Names;
 use crate::question::Question;
 use crate::record::Record;
 use crate::refusal::{Refusal, RefusalKind};
@@ -49,6 +51,7 @@ pub struct Snapshot {
     /// What the check answered.
     answer: [usize; sys::CHECKED],
     counts: Counts,
+    names: Arc<Names>,
     /// The edition of each module's crate.
     editions: Box<[Edition]>,
     /// No two checks give the same; clones have the same words and tables, and this number.
@@ -72,7 +75,7 @@ impl std::fmt::Debug for Snapshot {
     }
 }
 
-/// The edition of each module's crate, of words that the check accepted. Arguments have no kind, so each other word is a head.
+/// The edition of each module's crate, of the words after the names. Arguments have no kind, so each other word is a head.
 fn editions(words: &[u32]) -> Box<[Edition]> {
     let (mut crates, mut maps, mut modules) = (Vec::new(), Vec::new(), Vec::new());
     for (at, word) in words.iter().enumerate().take_while(|(_, word)| **word >> 28 <= 5) {
@@ -175,12 +178,14 @@ impl Snapshot {
             externs,
             members,
         };
+        let names = Names::new(words, &area[..counts.names]);
         Ok(Snapshot {
+            editions: editions(&words[names.word_count()..]),
             words: words.into(),
             tables: area[..sys::table_words()].into(),
             answer,
             counts,
-            editions: editions(words),
+            names: names.into(),
             number: CHECKS.fetch_add(1, Ordering::Relaxed),
         })
     }
@@ -253,12 +258,7 @@ impl Snapshot {
     /// The text of a name, where the snapshot has that name.
     #[must_use]
     pub fn name(&self, name: NameId) -> Option<Text> {
-        if self.counts.names <= name.0 as usize {
-            return None;
-        }
-        let mut bytes = [0; Text::MAX_BYTES];
-        let length = sys::name(&self.words, &self.tables, name.0 as usize, &mut bytes);
-        Some(Text(bytes[..length].into()))
+        self.names.read(name)
     }
 
     /// The edition of a module's crate, where the snapshot has that module.
@@ -267,11 +267,8 @@ impl Snapshot {
         self.editions.get(module.0 as usize).copied()
     }
 
-    /// A name of the snapshot, with its text, as it is written in an edition: a keyword with `r#`.
-    pub(crate) fn written(&self, name: NameId, text: &Text, edition: Edition) -> Vec<u8> {
-        let raw = may_be_keyword(text.as_bytes())
-            && sys::is_raw(&self.words, &self.tables, name.0 as usize, edition as usize);
-        if raw { [b"r#", text.as_bytes()].concat() } else { text.as_bytes().into() }
+    pub(crate) fn names(&self) -> &Arc<Names> {
+        &self.names
     }
 
     pub(crate) fn tables(&self) -> &[u32] {
@@ -292,9 +289,10 @@ impl Snapshot {
     /// Answers a question in a work area of the caller's.
     pub fn find_path_in(&self, question: &Question, area: &mut WorkArea) -> Report {
         let area = area.words_with_tables(self);
+        let mut report = [0; sys::REPORT];
         // SAFETY: the words were accepted with this answer, they never change, and their tables are in the area.
-        let report = unsafe { sys::find_path_checked(&self.words, area, &self.answer, &question.words()) };
-        Report::new(self, question.from, report)
+        unsafe { sys::find_path_checked(&self.words, area, &self.answer, &question.words(), &mut report) };
+        Report::new(self, question.from, &report)
     }
 
     /// Answers questions in order, each as [`Snapshot::find_path`] does, a refused one included.
@@ -327,14 +325,9 @@ impl Snapshot {
             let asked: Vec<_> = call.iter().map(Question::words).collect();
             // SAFETY: as in `find_path_in`.
             let told = unsafe { sys::find_paths_checked(&self.words, area, &self.answer, &asked) };
-            let answered = call.iter().zip(told);
+            let answered = call.iter().zip(&told);
             reports.extend(answered.map(|(question, words)| Report::new(self, question.from, words)));
         }
         reports
     }
-}
-
-/// Whether a text may be a keyword: at most eight bytes, all but the first of them small letters. About others nothing is asked.
-fn may_be_keyword(text: &[u8]) -> bool {
-    text.len() <= 8 && text.iter().skip(1).all(u8::is_ascii_lowercase)
 }

@@ -219,7 +219,7 @@ pub fn table_words() -> usize {
     unsafe { raw::kelumavor_table_words() }
 }
 
-/// The report of a question on words that were checked before.
+/// Writes the report of a question on words that were checked before.
 ///
 /// # Safety
 ///
@@ -230,8 +230,8 @@ pub unsafe fn find_path_checked(
     area: &mut [u32],
     counts: &[usize; CHECKED],
     question: &[u32; QUESTION],
-) -> [u32; REPORT] {
-    let mut report = [0; REPORT];
+    report: &mut [u32; REPORT],
+) {
     // SAFETY: as in `check`, and by the caller the words are checked.
     let written = unsafe {
         raw::kelumavor_find_path_checked(
@@ -246,7 +246,6 @@ pub unsafe fn find_path_checked(
         )
     };
     assert!(written, "a report has {REPORT} words");
-    report
 }
 
 /// The report of each question, of at most `QUESTIONS`, on words that were checked before.

@@ -4,7 +4,7 @@ use std::str::Utf8Error;
 
 /// The text of a name, as its snapshot has it.
 #[derive(Clone, PartialEq, Eq, Hash)]
-pub struct Text(pub(crate) Vec<u8>);
+pub struct Text(pub(crate) Box<[u8]>);
 
 impl Text {
     /// Bytes of a text, at most.

@@ -69,7 +69,7 @@ impl Windows {
         let before = self.state;
         let (window, report) = sys::turn(&mut self.state, snapshot.words(), area.words())?;
         let from = ModuleId(before[1 + window * (1 + sys::QUESTION) + 3]);
-        Some((window, Report::new(snapshot, from, report)))
+        Some((window, Report::new(snapshot, from, &report)))
     }
 }
 

@@ -42,6 +42,10 @@ pub enum Edition {
     Rust2024 = 2024,
 }
 
+impl Edition {
+    pub(crate) const ALL: [Self; 4] = [Self::Rust2015, Self::Rust2018, Self::Rust2021, Self::Rust2024];
+}
+
 /// From its year.
 impl TryFrom<u32> for Edition {
     type Error = Refusal;
@@ -171,7 +175,7 @@ impl From<&Snapshot> for SnapshotWords {
         for (_, record) in snapshot.records() {
             if let Record::Name(Text(text)) = &record {
                 let number = u32::try_from(words.names.len()).expect("as many names as a snapshot may have");
-                words.names.insert(text.clone(), NameId(number));
+                words.names.insert(text.to_vec(), NameId(number));
             }
             words.add(record);
         }
@@ -288,7 +292,7 @@ impl SnapshotWords {
         if let Some(name) = self.names.get(text) {
             return Ok(*name);
         }
-        let name = NameId(self.add(Record::Name(Text(text.to_vec()))));
+        let name = NameId(self.add(Record::Name(Text(text.into()))));
         self.names.insert(text.to_vec(), name);
         Ok(name)
     }
