@@ -20,7 +20,7 @@ ghost use Rattle.find_path_spec.specs.declared.Tank.{Tank};
 ghost use Rattle.find_path_spec.specs.Conditions.{Prepared, Asked, Searched};
 ghost use Rattle.find_path.specs.charged_search.Parts.{modules, best_path, one_import, imports, dependencies, sysroot, in_lang, Begun, Held};
 
-use crate::search_parts::{is_stable, langs_for};
+use crate::search_parts::{is_imported, is_stable, langs_for};
 use accept::opened::Snapshot;
 use find_path_choice::choices::length_left;
 use find_path_local::calculate_best_path_local;
@@ -219,7 +219,7 @@ fn find_in_rest(
     find_in_deps(records, area, x, left, item, Which::Others, a)
 }
 
-// The dependencies of one sort, in record order.
+// The dependencies of one sort, in record order. Those that don't import the item are passed over: what was found is carried by value.
 // `loop`: each turn looks for the next one after the last, in the snapshot as it then is.
 #[cycle(charged)]
 fn find_in_deps(
@@ -245,9 +245,12 @@ fn find_in_deps(
         let Some(next) = next_dependency(&db, k, x.from_crate, which) else {
             return best;
         };
-        let c = dependency_crate(records.words, next.head);
-        best = find_in_dep(records, area, x, left, item, c, best);
         k = next.number + 1;
+        let c = dependency_crate(records.words, next.head);
+        if !is_imported(&db, c, item) {
+            continue;
+        }
+        best = find_in_dep(records, area, x, left, item, c, best);
     }
 }
 

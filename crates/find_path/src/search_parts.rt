@@ -1,15 +1,19 @@
 //! Small parts of the search, outside its cycles of calls.
 
-ghost use Rattle.std.specs.Prelude.{◌≡◌, [], ◌∷◌};
+ghost use Rattle.std.specs.Prelude.{◌≡◌, [], ◌∷◌, false};
+ghost use Rattle.accept.specs.Opened.{snap_in};
+ghost use Rattle.hir_def.specs.ImportMap.{import_info_for};
 ghost use Rattle.find_path_choice.specs.Given.{given};
 ghost use Rattle.find_path_spec.specs.Charged.{is_stable, langs};
 ghost use Rattle.snapshot.specs.Ids.{plus_one};
 ghost use Rattle.snapshot.specs.Origins.{origin_number};
 ghost use Rattle.find_path.specs.search_parts.Parts.{straight};
 
+use accept::opened::Snapshot;
 use find_path_choice::Choice;
 use hir_def::Item;
-use snapshot::ids::{CrateOrigin, ModuleId};
+use hir_def::import_map::import_info_for;
+use snapshot::ids::{Crate, CrateOrigin, ModuleId};
 
 /// Whether a choice ends the search of the sysroot.
 pub fn is_stable(c: Option<Choice>) -> bool
@@ -59,4 +63,11 @@ pub fn straight_of(std: bool, item: Item) -> Option<ModuleId>
         Item::Mod(m) => Some(m),
         Item::Def(_, _) => None,
     }
+}
+
+/// Whether the crate imports the item.
+pub fn is_imported(db: &Snapshot, c: Crate, item: Item) -> bool
+    ensures { result ≡ false → import_info_for (snap_in db.now) c.0 item ≡ [] }
+{
+    import_info_for(db, 0, c, item).is_some()
 }

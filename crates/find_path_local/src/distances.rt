@@ -252,8 +252,8 @@ fn relax(records: &Records, area: &mut Area, x: FindPathCtx, d: usize) -> bool
     more
 }
 
-// The modules that a rule may answer for.
-fn mark_rules(records: &Records, area: &mut Area, x: FindPathCtx)
+/// Marks the modules that a rule may answer for.
+pub fn mark_rules(records: &Records, area: &mut Area, x: FindPathCtx)
     requires { Ready records.now.words.now area.old records.now.layout × (x.from.0 < records.now.layout.modules) }
     ensures { Marked records.now.words.now area.old records.now.layout x area.new }
 {
@@ -287,31 +287,26 @@ fn sift_at(records: &Records, area: &mut Area, x: FindPathCtx, m: ModuleId)
     area[at] = Distances::FAR as u32;
 }
 
-// Those that no rule answers for are far again.
+// Those of the walk that no rule answers for are far again.
 fn sift(records: &Records, area: &mut Area, x: FindPathCtx)
-    requires { Ready records.now.words.now area.old records.now.layout × (x.from.0 < records.now.layout.modules) }
+    requires { Ready records.now.words.now area.old records.now.layout × (x.from.0 < records.now.layout.modules)
+        × Walked (snap_by records.now area.old) x.from.0 area.old }
     ensures { Sifted records.now.words.now area.old records.now.layout x area.new }
 {
-    for m in 0..records.layout.modules {
-        sift_at(records, area, x, ModuleId(m));
+    let n = word(area, Walk::COUNT);
+    for k in 0..n {
+        let m = ModuleId(word(area, Walk::AT + k));
+        sift_at(records, area, x, m);
     }
 }
 
-/// Marks the modules that a rule answers for.
-pub fn mark_answers(records: &Records, area: &mut Area, x: FindPathCtx)
-    requires { Ready records.now.words.now area.old records.now.layout × (x.from.0 < records.now.layout.modules) }
-    ensures { Marked records.now.words.now area.old records.now.layout x area.new }
-{
-    mark_rules(records, area, x);
-    sift(records, area, x);
-}
-
-/// Sets the numbers of all modules, where those that a rule answers for are marked and the walk is taken.
+/// Sets the numbers of all modules, where those that a rule may answer for are marked and the walk is taken.
 pub fn set_distances(records: &Records, area: &mut Area, x: FindPathCtx)
     requires { Ready records.now.words.now area.old records.now.layout × (x.from.0 < records.now.layout.modules)
         × Marked records.now.words.now area.old records.now.layout x area.old × Walked (snap_by records.now area.old) x.from.0 area.old }
     ensures { Bounded records.now.words.now area.old records.now.layout x area.new }
 {
+    sift(records, area, x);
     for d in 1..Distances::FAR - 1 {
         if !relax(records, area, x, d) {
             return;

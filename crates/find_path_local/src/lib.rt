@@ -21,7 +21,7 @@ pub mod near;
 pub mod path_offers;
 pub mod tight_rows;
 
-use crate::distances::{Distances, mark_answers, set_distances};
+use crate::distances::{Distances, mark_rules, set_distances};
 use crate::near::{is_lost, note};
 use crate::path_offers::{importable_name, is_named, offer_entry};
 use crate::tight_rows::{Rows, clear_rows, from_row, is_tight, row_of, row_place};
@@ -232,7 +232,7 @@ pub fn calculate_best_path_local(
         return None;
     }
     let sought = Sought { item };
-    mark_answers(records, area, x);
+    mark_rules(records, area, x);
     take_walk(records, area, x.from, sought);
     set_distances(records, area, x);
     clear_rows(area, records.layout.modules);

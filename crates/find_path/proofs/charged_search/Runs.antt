@@ -1,5 +1,5 @@
 -- Searches one after the other: the tables stay, so each speaks of the first one's snapshot. And the loops over records.
-use mathlib.Core.Path.{◌≡◌, sym, ◌∙◌, ap, subst}
+use mathlib.Core.Path.{◌≡◌, refl, sym, ◌∙◌, ap, subst}
 use Prim.Native.Nat.{ℕ, ◌+◌, ◌*◌, ◌<◌}
 use mathlib.Core.List.{List, [], ◌∷◌}
 use Rattle.std.specs.Prelude.{Option}
@@ -188,3 +188,16 @@ module _ (W A₀ A : List ℕ) (l : Layout) (x : FindPathCtx) (left : ℕ) (p : 
         held = subst (Held left) (sym (ap taken v))
             (held_imports S x left (out_of best) (import_info_for S (dependency_at W h).crate item) some g.held);
       }
+
+  -- a crate that imports nothing of it is passed over
+  pub deps_skip : (item : Item) {q : Dependency → Bool} {base n k j h c : ℕ} {best : CodeFound} {goal : Out Tank}
+      → Running A₀ A left best (dependencies (snap_of W A₀ l) x left item (out_of best)
+      (left_of q (λ i. dependency_at W (base + dependency_size * i)) n k)) goal
+      → Meets q dependency_at dependency_size W base n k j h
+      → c ≡ (dependency_at W h).crate
+      → import_info_for (snap_of W A l) c item ≡ []
+      → Running A₀ A left best (dependencies (snap_of W A₀ l) x left item (out_of best)
+      (left_of q (λ i. dependency_at W (base + dependency_size * i)) n (j + 1))) goal
+  unfolding find_imports
+  deps_skip item {best = best} g m y e =
+      deps_next item g m y (record { same = ap found_of (sym (ap (imports (snap_of W A l) x left (out_of best)) e)); tables = refl }) refl

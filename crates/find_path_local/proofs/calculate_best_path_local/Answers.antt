@@ -20,13 +20,13 @@ invariant_of-sought c = record {
   small = asked_small c.args.records.now.words.now c.args.area.now c.args.records.now.layout c.requires.0.reads c.args.item c.requires.1;
 }
 
-pub mark_answers-requires : goal.mark_answers-requires
-mark_answers-requires c = (record { reads = c.requires.0.reads; area = c.requires.0.area }, c.requires.0.from)
+pub mark_rules-requires : goal.mark_rules-requires
+mark_rules-requires c = (record { reads = c.requires.0.reads; area = c.requires.0.area }, c.requires.0.from)
 
 pub take_walk-requires : goal.take_walk-requires
 take_walk-requires c =
     let r = c.args.records.now in
-    (marked_reads r.words.now c.args.area.now r.layout c.args.x c.requires.0 _ c.mark_answers.ensures, c.requires.0.from)
+    (marked_reads r.words.now c.args.area.now r.layout c.args.x c.requires.0 _ c.mark_rules.ensures, c.requires.0.from)
 
 pub set_distances-requires : goal.set_distances-requires
 set_distances-requires c =
@@ -35,7 +35,7 @@ set_distances-requires c =
     let A = c.args.area.now in
     let x = c.args.x in
     let p = c.requires.0 in
-    let m = c.mark_answers.ensures in
+    let m = c.mark_rules.ensures in
     let w = c.take_walk.ensures in (
       walk_ready W A r.layout x p _ m _ w (c.take_walk.array_long ∙ sym c.told-area),
       p.from,
@@ -46,12 +46,12 @@ set_distances-requires c =
 pub local_at-requires : goal.local_at-requires
 local_at-requires c =
     let r = c.args.records.now in
-    let y = search_start r.words.now c.args.area.now r.layout c.args.x c.requires.0 _ c.mark_answers.ensures _ c.take_walk.ensures _
+    let y = search_start r.words.now c.args.area.now r.layout c.args.x c.requires.0 _ c.mark_rules.ensures _ c.take_walk.ensures _
     c.set_distances.ensures _ c.clear_rows.ensures c.args.left c.requires.3 (c.clear_rows.array_long ∙ sym c.told-area) in
     (c.requires.2, y)
 
 pub returns : goal.returns
 returns c =
     let r = c.args.records.now in
-    search_done r.words.now c.args.area.now r.layout c.args.x c.requires.0 _ c.mark_answers.ensures _ c.take_walk.ensures _ c.set_distances.ensures _
+    search_done r.words.now c.args.area.now r.layout c.args.x c.requires.0 _ c.mark_rules.ensures _ c.take_walk.ensures _ c.set_distances.ensures _
     c.clear_rows.ensures c.args.left c.args.item _ _ c.local_at.ensures

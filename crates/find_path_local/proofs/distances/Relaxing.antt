@@ -224,12 +224,13 @@ module _ (W A₀ : List ℕ) (l : Layout) (x : FindPathCtx) (y : Ready W A₀ l)
   fits : (k : ℕ) → k < l.scopes → ScopeFits (counts_in l) (entry_at W l k)
   fits k h = scope_read W A₀ l (accepted_valid W S₀ y.reads.same) k h
 
-  pub settling_start : Marked W A₀ l x A₀ → Settling W A₀ l x A₀ 1
-  settling_start f =
+  pub settling_start : {A : List ℕ} → Marked W A₀ l x A → length A ≡ length A₀ → ((i : ℕ) → distances_end ≤ i → get_or A i 0 ≡ get_or A₀ i 0)
+      → Settling W A₀ l x A 1
+  settling_start f z o =
       record {
         marked = f;
-        size = refl;
-        beyond = λ i h. refl;
+        size = z;
+        beyond = o;
         closed = λ k h q. let a = (f.far (entry_at W l k).owner (fits k h).owner).0 in absurd (omega arith);
       }
 
@@ -327,9 +328,6 @@ module _ (W A₀ : List ℕ) (l : Layout) (x : FindPathCtx) (y : Ready W A₀ l)
           subst (Bounded W A₀ l x) (sym q) (all_bounded c)
 
 -- marks stay where the words before the walk do
-pub marked_ready : (W A₀ A₁ : List ℕ) (l : Layout) (x : FindPathCtx) → Ready W A₀ l → Marked W A₀ l x A₁ → length A₁ ≡ length A₀ → Ready W A₁ l
-marked_ready W A₀ A₁ l x y f z = record { reads = same_reads W A₀ A₁ l f.tables y.reads; area = z ∙ y.area }
-
 pub marked_again : (W A₀ A₁ B : List ℕ) (l : Layout) (x : FindPathCtx) → Reads W A₀ l → Marked W A₀ l x A₁ → take walk_at B ≡ take walk_at A₁
     → Marked W B l x B
 marked_again W A₀ A₁ B l x r f e =
@@ -344,7 +342,7 @@ marked_again W A₀ A₁ B l x r f e =
     }
 
 -- a module that no rule answers for is far
-module _ (W A : List ℕ) (l : Layout) (x : FindPathCtx) (m : ℕ) (room : table_words + m < length A)
+module _ (W A : List ℕ) (l : Layout) (x : FindPathCtx) (m : ℕ) (room : table_words + m < length A) (known : m < module_limit)
     (none : ruled (snap_of W A l) x m ≡ false) where
   abbrev Without : List ℕ
   Without = set A (table_words + m) 16
@@ -359,7 +357,7 @@ module _ (W A : List ℕ) (l : Layout) (x : FindPathCtx) (m : ℕ) (room : table
   same = take-set-le table_words A (table_words + m) 16 (omega arith)
 
   pub sifted : Sifted W A l x Without
-  sifted = record { marks = marks; tables = same }
+  sifted = record { marks = marks; beyond = λ i h. get_or-set_other A (table_words + m) i 16 0 (λ q. omega arith); tables = same }
     where
       marks : (B : List ℕ) → Reads W B l → Marked W B l x A → Marked W B l x Without
       marks B r f =
@@ -377,7 +375,8 @@ module _ (W A : List ℕ) (l : Layout) (x : FindPathCtx) (m : ℕ) (room : table
           }
 
 pub sifted_none : (W A : List ℕ) (l : Layout) (x : FindPathCtx) → Sifted W A l x A
-sifted_none W A l x = record { marks = λ B r f. f; tables = refl }
+sifted_none W A l x = record { marks = λ B r f. f; beyond = λ i h. refl; tables = refl }
 
 pub sifted_then : {W A B C : List ℕ} {l : Layout} {x : FindPathCtx} → Sifted W A l x B → Sifted W B l x C → Sifted W A l x C
-sifted_then f g = record { marks = λ Z r h. g.marks Z r (f.marks Z r h); tables = g.tables ∙ f.tables }
+sifted_then f g =
+    record { marks = λ Z r h. g.marks Z r (f.marks Z r h); beyond = λ i h. g.beyond i h ∙ f.beyond i h; tables = g.tables ∙ f.tables }

@@ -36,9 +36,10 @@ pub record Marked (W A₀ : List ℕ) (l : Layout) (x : FindPathCtx) (A : List �
   pub answers : Answering (snap_of W A₀ l) x l.modules (distance A)
   pub tables : take table_words A ≡ take table_words A₀
 
--- what was marked is, and the tables stay
+-- what was marked is, and the tables and the words past the numbers stay
 pub record Sifted (W A₀ : List ℕ) (l : Layout) (x : FindPathCtx) (A : List ℕ) : Type 0 where
   pub marks : (B : List ℕ) → Reads W B l → Marked W B l x A₀ → Marked W B l x A
+  pub beyond : (i : ℕ) → distances_end ≤ i → get_or A i 0 ≡ get_or A₀ i 0
   pub tables : take table_words A ≡ take table_words A₀
 
 -- no word is larger than before, none became 0, and the tables stay

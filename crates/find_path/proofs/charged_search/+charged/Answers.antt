@@ -25,7 +25,7 @@ use Rattle.find_path.proofs.charged_search.Parts.{at_home, module_ns, module_non
 use Rattle.find_path.proofs.charged_search.Parts.{go_sysroot, go_dependencies, lang_stable, lang_none, lang_some, rest_stable, import_hidden}
 use Rattle.find_path.proofs.charged_search.Holding.{offered, charge_sum, module_small, held_nothing, home_below}
 use Rattle.find_path.proofs.charged_search.Runs.{begun_later, lang_passed, deps_passed, lang_run, rest_run, import_run, running_done}
-use Rattle.find_path.proofs.charged_search.Runs.{imports_end, imports_next, deps_end, deps_next}
+use Rattle.find_path.proofs.charged_search.Runs.{imports_end, imports_next, deps_end, deps_next, deps_skip}
 use Rattle.snapshot.specs.Laid.{snap_by}
 use Rattle.find_path.proofs.charged_search.+charged.Goals as goal
 
@@ -210,6 +210,18 @@ find_in_deps-loop-next-smaller t c =
     let m = next_record c.next_dependency.ensures
     c.in-Some.is in
     omega (arith, m.from, m.below)
+
+pub find_in_deps-loop-next-smaller-then-not-is_imported : goal.find_in_deps-loop-next-smaller-then-not-is_imported
+find_in_deps-loop-next-smaller-then-not-is_imported t c =
+    let m = next_record c.next_dependency.ensures c.in-Some.is in
+    omega (arith, m.from, m.below)
+
+pub find_in_deps-loop-next-preserved-then-not-is_imported : goal.find_in_deps-loop-next-preserved-then-not-is_imported
+find_in_deps-loop-next-preserved-then-not-is_imported t c =
+    let a = c.args in
+    let g = c.loop-next in
+    deps_skip a.records.now.words.now a.area.now g.area a.records.now.layout a.x a.left c.requires.0.ready c.requires.0.some a.item
+    g.invariant (next_record c.next_dependency.ensures c.in-Some.is) c.dependency_crate-c.ensures (c.is_imported.ensures c.if-not-is_imported.true)
 
 pub find_in_deps-loop-next-preserved : goal.find_in_deps-loop-next-preserved
 find_in_deps-loop-next-preserved t c =

@@ -1,9 +1,17 @@
+use mathlib.Core.Path.{sym, ◌∙◌}
 use native.Mathlib.Omega.{arith}
 use Rattle.find_path_local.proofs.distances.Relaxing.{settling_start, settling_ready, settling_walked, settling_next, settling_stop, settling_end}
 use Rattle.find_path_local.proofs.distances.set_distances.Goals as goal
 
+pub sift-requires : goal.sift-requires
+sift-requires c = (c.requires.0, c.requires.1, c.requires.3)
+
 pub loop-d-init : goal.loop-d-init
-loop-d-init c = settling_start c.args.records.now.words.now c.args.area.now c.args.records.now.layout c.args.x c.requires.0 c.requires.2
+loop-d-init c =
+    let A = c.args.area.now in
+    let f = c.sift.ensures in
+    settling_start c.args.records.now.words.now A c.args.records.now.layout c.args.x c.requires.0 (f.marks A c.requires.0.reads c.requires.2)
+    (c.sift.array_long ∙ sym c.told-area) f.beyond
 
 pub relax-requires : goal.relax-requires
 relax-requires c =

@@ -15,4 +15,5 @@ pub returns : goal.returns
 returns c =
     sifted c.args.records.now.words.now c.args.area.now c.args.records.now.layout c.args.x c.args.m.0
     (omega (arith, c.requires.2, c.requires.0.reads.tables.limited.modules, c.requires.0.area))
+    (omega (arith, c.requires.2, c.requires.0.reads.tables.limited.modules))
     (ap (λ (z : Choice). z.found) (sym c.module_rules.ensures) ∙ sym (given_some _) ∙ sym c.is_some.ensures ∙ c.if-is_some.false)
