@@ -7,7 +7,6 @@ mod verdict;
 use printing::input::ByteCount;
 use printing::wording::TextBytes;
 use snapshot::ids::WordCount;
-use std::io;
 use std::process::ExitCode;
 use streams::{read_input, say_unread, write_output};
 
@@ -15,23 +14,23 @@ use streams::{read_input, say_unread, write_output};
 const FAILED: u8 = 2;
 
 // The buffers of `path_printer`, which writes line by line and needs another one: handed out by a function they would be a struct of four.
-fn main(rt: HostRuntime) -> io::Result<ExitCode> {
-    let alloc = rt.alloc();
+// Arrays, as there: no memory is asked for.
+fn main(rt: HostRuntime) -> ExitCode {
     // One byte more than an input may have.
-    let mut bytes = vec![in alloc; 0; ByteCount::INPUT + 1]?;
-    let mut words = vec![in alloc; 0; WordCount::SNAPSHOT]?;
-    let mut area = vec![in alloc; 0; WordCount::AREA]?;
-    let mut out = vec![in alloc; 0; TextBytes::LIMIT]?;
+    let mut bytes = [0u8; ByteCount::INPUT + 1];
+    let mut words = [0u32; WordCount::SNAPSHOT];
+    let mut area = [0u32; WordCount::AREA];
+    let mut out = [0u8; TextBytes::LIMIT];
     let Ok(n) = read_input(&rt, &mut bytes) else {
         say_unread(&rt);
-        return Ok(ExitCode::from(FAILED));
+        return ExitCode::from(FAILED);
     };
     let m = report::report(&bytes[..n], &mut words, &mut area, &mut out);
     // That the output cannot be written is said already.
     let written = write_output(&rt, &out[..m]);
-    Ok(if written.is_ok() {
+    if written.is_ok() {
         ExitCode::SUCCESS
     } else {
         ExitCode::from(FAILED)
-    })
+    }
 }

@@ -58,10 +58,11 @@ use snapshot::reading::payload;
 use snapshot::refusal::Refusal;
 use snapshot::table::{Tables, name_head};
 use snapshot::text::text_at;
+use windows::place;
 use windows::state::words::{windows_of, words_of};
-use windows::values::placed;
 
 /// The format of snapshots, questions and states.
+#[derive(Clone, Copy)]
 pub struct Format;
 
 impl Format {
@@ -248,13 +249,10 @@ pub extern "C" fn kelumavor_place(
 ) -> usize
     ensures { Placed state.old window (question_of question.now) state.new result }
 {
-    match placed(windows_of(*state), window, question) {
-        Ok(windows) => {
-            *state = words_of(windows);
-            0
-        }
-        Err(why) => why.number(),
-    }
+    let mut windows = windows_of(*state);
+    let r = place(&mut windows, window, question);
+    *state = words_of(windows);
+    number_of(r)
 }
 
 /// Serves the next window that waits, on a snapshot, and writes the report of its question. Answers the window, or 8 where no question

@@ -18,6 +18,7 @@ use snapshot::reading::word;
 use snapshot::records::Records;
 
 /// Where the walk stands: its modules, and then how many they are.
+#[derive(Clone, Copy)]
 pub struct Walk;
 
 impl Walk {

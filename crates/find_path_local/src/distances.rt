@@ -11,13 +11,14 @@ ghost use Rattle.accept.specs.Valid.{Each, ScopeFits};
 ghost use Rattle.hir_def.specs.Items.{map_no};
 ghost use Rattle.hir_def.specs.ItemScope.{entry_module};
 ghost use Rattle.hir_def.specs.Nameres.{ancestor_maps, prelude_of};
-ghost use Rattle.find_path_local.specs.distances.Distances.{distance, Named, Nearer, Opened, is_keyword, walk};
+ghost use Rattle.find_path_local.specs.distances.Distances.{distance, Named, Relaxed, Opened, Tried, is_keyword, walk};
 ghost use Rattle.find_path_levels.specs.walk_once.Walked.{Walked};
 ghost use Rattle.find_path_local.specs.distances.Post.{Ready, Cleared, Rooted, Marked, Lowers, Steps, Turned, Round, Bounded, Sifted};
 
 use crate::path_offers::importable_name;
 use accept::opened::Snapshot;
 use find_path_levels::walk_once::Walk;
+use find_path_rules::rule_lookups::is_importable;
 use find_path_rules::{keyword_rule, may_be_in_scope, module_rules};
 use find_path_spec::FindPathCtx;
 use hir_def::Item;
@@ -32,6 +33,7 @@ use snapshot::records::Records;
 use snapshot::table::Tables;
 
 /// Where the numbers stand, a word a module.
+#[derive(Clone, Copy)]
 pub struct Distances;
 
 impl Distances {
@@ -177,12 +179,23 @@ fn mark_keywords(records: &Records, area: &mut Area, x: FindPathCtx)
     mark_keyword(records, area, x, p);
 }
 
-// The step of an entry for a module, to the number d at most; whether it made a number smaller.
-fn relax_entry(records: &Records, area: &mut Area, x: FindPathCtx, h: usize, d: usize) -> bool
+// The step of an entry for a module, to the number d at most, if the viewer can import it; whether it made a number smaller.
+// `tried` has a word a module: the module +1 from which the lookup failed last, 0 for none.
+fn relax_entry(
+    records: &Records,
+    area: &mut Area,
+    tried: &mut [u32; ModuleId::LIMIT],
+    x: FindPathCtx,
+    h: usize,
+    d: usize,
+) -> bool
     requires { Ready records.now.words.now area.old records.now.layout × (x.from.0 < records.now.layout.modules)
         × ScopeFits (counts_in records.now.layout) (scope_at records.now.words.now h)
-        × (entry_module (snap_by records.now area.old) (scope_at records.now.words.now h) < records.now.layout.modules) × (0 < d) × (d < 2 ^ 32) }
-    ensures { Steps area.old d area.new result × Nearer (snap_by records.now area.old) x (distance area.new) d (scope_at records.now.words.now h) }
+        × (entry_module (snap_by records.now area.old) (scope_at records.now.words.now h) < records.now.layout.modules) × (0 < d) × (d < 2 ^ 32)
+        × Tried (snap_by records.now area.old) x tried.old }
+    ensures steps { Steps area.old d area.new result
+        × Relaxed (snap_by records.now area.old) x (distance area.new) d (scope_at records.now.words.now h) }
+    ensures misses { Tried (snap_by records.now area.old) x tried.new }
 {
     let m = first_of(records, scope_definition(records.words, h));
     let at = Distances::AT + m;
@@ -193,8 +206,18 @@ fn relax_entry(records: &Records, area: &mut Area, x: FindPathCtx, h: usize, d: 
         records: *records,
         area,
     };
+    // The entry that the lookup gives is one that the viewer can import, so nothing is looked up for another.
+    if !is_importable(&db, x, h) {
+        return false;
+    }
     let owner = scope_owner(records.words, h);
+    // Where the lookup failed for an entry of this owner before, it is not done again.
+    let mark = owner.0 as u32 + 1;
+    if tried[m] == mark {
+        return false;
+    }
     let Some(_) = importable_name(&db, x, Item::Mod(ModuleId(m)), owner) else {
+        tried[m] = mark;
         return false;
     };
     area[at] = d as u32;
@@ -203,10 +226,19 @@ fn relax_entry(records: &Records, area: &mut Area, x: FindPathCtx, h: usize, d: 
 
 // The steps of the entries of m, to the number d at most; whether one made a number smaller.
 // `loop`, as in `mark_scope`.
-fn relax_scope(records: &Records, area: &mut Area, x: FindPathCtx, m: ModuleId, d: usize) -> bool
-    requires { Ready records.now.words.now area.old records.now.layout × (x.from.0 < records.now.layout.modules) × (0 < d) × (d < 2 ^ 32) }
-    ensures { Steps area.old d area.new result
+fn relax_scope(
+    records: &Records,
+    area: &mut Area,
+    tried: &mut [u32; ModuleId::LIMIT],
+    x: FindPathCtx,
+    m: ModuleId,
+    d: usize,
+) -> bool
+    requires { Ready records.now.words.now area.old records.now.layout × (x.from.0 < records.now.layout.modules) × (0 < d) × (d < 2 ^ 32)
+        × Tried (snap_by records.now area.old) x tried.old }
+    ensures steps { Steps area.old d area.new result
         × Each (Opened (snap_by records.now area.old) x (distance area.new) m.0 d) (snap_by records.now area.old).scopes }
+    ensures misses { Tried (snap_by records.now area.old) x tried.new }
 {
     let mut changed = false;
     let mut k = 0;
@@ -218,35 +250,50 @@ fn relax_scope(records: &Records, area: &mut Area, x: FindPathCtx, m: ModuleId, 
         let Some(next) = modules_in_scope(&db, k, m) else {
             return changed;
         };
-        let r = relax_entry(records, area, x, next.head, d);
+        let r = relax_entry(records, area, tried, x, next.head, d);
         changed = changed | r;
         k = next.number + 1;
     }
 }
 
 // The steps from m, where its number is d; whether there is more to do than for the numbers up to d.
-fn relax_at(records: &Records, area: &mut Area, x: FindPathCtx, m: ModuleId, d: usize) -> bool
+fn relax_at(
+    records: &Records,
+    area: &mut Area,
+    tried: &mut [u32; ModuleId::LIMIT],
+    x: FindPathCtx,
+    m: ModuleId,
+    d: usize,
+) -> bool
     requires { Ready records.now.words.now area.old records.now.layout × (x.from.0 < records.now.layout.modules)
-        × (m.0 < records.now.layout.modules) × (d < 16) }
-    ensures { Turned (snap_by records.now area.old) x area.old m.0 d area.new result }
+        × (m.0 < records.now.layout.modules) × (d < 16) × Tried (snap_by records.now area.old) x tried.old }
+    ensures turned { Turned (snap_by records.now area.old) x area.old m.0 d area.new result }
+    ensures misses { Tried (snap_by records.now area.old) x tried.new }
 {
     let w = word(area, Distances::AT + m.0);
     if w == d {
-        return relax_scope(records, area, x, m, d + 1);
+        return relax_scope(records, area, tried, x, m, d + 1);
     }
     (d < w) & (w < Distances::FAR)
 }
 
 // The steps from the modules of the walk with the number d; whether there is more to do.
-fn relax(records: &Records, area: &mut Area, x: FindPathCtx, d: usize) -> bool
+fn relax(
+    records: &Records,
+    area: &mut Area,
+    tried: &mut [u32; ModuleId::LIMIT],
+    x: FindPathCtx,
+    d: usize,
+) -> bool
     requires { Ready records.now.words.now area.old records.now.layout × (x.from.0 < records.now.layout.modules) × (d < 16)
-        × Walked (snap_by records.now area.old) x.from.0 area.old }
-    ensures { Round (snap_by records.now area.old) x area.old (walk (snap_by records.now area.old) x) d area.new result }
+        × Walked (snap_by records.now area.old) x.from.0 area.old × Tried (snap_by records.now area.old) x tried.old }
+    ensures round { Round (snap_by records.now area.old) x area.old (walk (snap_by records.now area.old) x) d area.new result }
+    ensures misses { Tried (snap_by records.now area.old) x tried.new }
 {
     let mut more = false;
     for k in 0..word(area, Walk::COUNT) {
         let m = ModuleId(word(area, Walk::AT + k));
-        let r = relax_at(records, area, x, m, d);
+        let r = relax_at(records, area, tried, x, m, d);
         more = more | r;
     }
     more
@@ -307,8 +354,9 @@ pub fn set_distances(records: &Records, area: &mut Area, x: FindPathCtx)
     ensures { Bounded records.now.words.now area.old records.now.layout x area.new }
 {
     sift(records, area, x);
+    let mut tried = [0u32; ModuleId::LIMIT];
     for d in 1..Distances::FAR - 1 {
-        if !relax(records, area, x, d) {
+        if !relax(records, area, &mut tried, x, d) {
             return;
         }
     }

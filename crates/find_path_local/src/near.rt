@@ -17,7 +17,7 @@ ghost use Rattle.find_path_levels.specs.walk_once.Walked.{walk_end};
 ghost use Rattle.find_path_local.specs.tight_rows.Rows.{rows_at};
 ghost use Rattle.find_path_local.specs.Post.{Searchable};
 ghost use Rattle.find_path_local.specs.distances.Distances.{distance, walk};
-ghost use Rattle.find_path_local.specs.near.Numbers.{failures_at, number, Nearer, Opened};
+ghost use Rattle.find_path_local.specs.near.Numbers.{failures_at, number, Relaxed, Opened};
 ghost use Rattle.find_path_local.specs.near.Post.{Scratched, Begun, Falls, Turned};
 
 use crate::distances::Distances;
@@ -27,6 +27,7 @@ use find_path_choice::Choice;
 use find_path_levels::levels::has;
 use find_path_levels::walk_once::{Walk, locations};
 use find_path_levels::{Sought, Stack};
+use find_path_rules::rule_lookups::is_importable;
 use find_path_spec::FindPathCtx;
 use hir_def::Item;
 use hir_def::item_scope::modules_in_scope;
@@ -73,13 +74,13 @@ fn takes(
     has(area, here.top, n, c)
 }
 
-// The step of an entry for a module, to the number d at most.
+// The step of an entry for a module, to the number d at most, if the viewer can import it.
 fn relax_entry(records: &Records, area: &mut [u32], x: FindPathCtx, s: Stack, h: usize, d: usize)
     requires { Searchable records.now.words.now area.old records.now.layout x 3 s
         × ScopeFits (counts_in records.now.layout) (scope_at records.now.words.now h)
         × (entry_module (snap_by records.now area.old) (scope_at records.now.words.now h) < records.now.layout.modules) × (d < 2 ^ 32) }
     ensures { Falls s.top d area.old area.new
-        × Nearer (snap_by records.now area.old) x (levels_of area.old s.place s.depth) (number area.new s.top) d (scope_at records.now.words.now h) }
+        × Relaxed (snap_by records.now area.old) x (levels_of area.old s.place s.depth) (number area.new s.top) d (scope_at records.now.words.now h) }
 {
     let m = first_of(records, scope_definition(records.words, h));
     let at = s.top + m;
@@ -90,6 +91,10 @@ fn relax_entry(records: &Records, area: &mut [u32], x: FindPathCtx, s: Stack, h:
         records: *records,
         area,
     };
+    // As in `distances`.
+    if !is_importable(&db, x, h) {
+        return;
+    }
     let owner = scope_owner(records.words, h);
     let Some(_) = importable_name(&db, x, Item::Mod(ModuleId(m)), owner) else {
         return;

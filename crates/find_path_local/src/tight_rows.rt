@@ -27,6 +27,7 @@ use snapshot::reading::word;
 use snapshot::record::scope_name;
 
 /// Where the rows stand, a word a module.
+#[derive(Clone, Copy)]
 pub struct Rows;
 
 impl Rows {

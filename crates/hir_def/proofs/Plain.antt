@@ -10,7 +10,7 @@ use lib.Dec.{eqb}
 use Rattle.snapshot.specs.Records.{Snapshot, Scope}
 use Rattle.hir_def.specs.Finds.{first_of, reads_of}
 use Rattle.hir_def.specs.Items.{definition_of, item_of}
-use Rattle.hir_def.specs.ItemScope.{counts, is_for, name_of, names_of}
+use Rattle.hir_def.specs.ItemScope.{counts, is_for, name_of, names_of, name_reads, names_reads}
 use Rattle.hir_def.specs.declared.Item.{Item}
 
 -- the entry with 0 or 1 in place of 2 or 3
@@ -83,6 +83,14 @@ module _ (s : Snapshot) (m : ℕ) (item : Item) where
   unfolding name_of
   name_plain = first_plain (is_for s m item) (is_for (plainly s) m item) for_plain s.scopes
 
+  pub name_reads_plain : name_reads (plainly s) m item ≡ name_reads s m item
+  unfolding name_reads
+  name_reads_plain = reads_plain (is_for s m item) (is_for (plainly s) m item) for_plain s.scopes
+
   pub names_plain : (b : Bool) → names_of (plainly s) m item (counts b) ≡ plain_of (names_of s m item (counts b))
   unfolding names_of
   names_plain b = first_plain _ _ (counts_plain b) s.scopes
+
+  pub names_reads_plain : (b : Bool) → names_reads (plainly s) m item (counts b) ≡ names_reads s m item (counts b)
+  unfolding names_reads
+  names_reads_plain b = reads_plain _ _ (counts_plain b) s.scopes

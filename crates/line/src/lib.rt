@@ -25,6 +25,7 @@ use printing::output::put;
 use snapshot::ids::ModuleId;
 
 /// A number of bytes.
+#[derive(Clone, Copy)]
 pub struct LineBytes;
 
 impl LineBytes {

@@ -15,9 +15,10 @@ const LIST: usize = 65536;
 
 // As that of `refusals`, which has more words in its area and a second part: what they share is reading, and stands in `streams`.
 fn main(rt: HostRuntime) -> io::Result<()> {
-    let alloc = rt.alloc();
-    let mut list = vec![in alloc; 0; LIST]?;
-    let mut area = vec![in alloc; 0; WordCount::AREA]?;
+    let mut list = [0u8; LIST];
+    let mut words = [0u32; WordCount::SNAPSHOT];
+    let mut queries = [0u32; WordCount::SNAPSHOT];
+    let mut area = [0u32; WordCount::AREA];
     let n = read_as_far(&rt, &mut list);
-    cases::run(&rt, &list[..n], &mut area)
+    cases::run(&rt, &list[..n], &mut words, &mut queries, &mut area)
 }

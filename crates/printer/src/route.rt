@@ -20,6 +20,7 @@ use printing::output::put;
 use snapshot::ids::ModuleId;
 
 /// A number of bytes.
+#[derive(Clone, Copy)]
 pub struct RoutedBytes;
 
 impl RoutedBytes {

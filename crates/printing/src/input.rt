@@ -6,6 +6,7 @@ ghost use Rattle.printing.specs.Input.{word_in, words_in};
 use snapshot::ids::WordCount;
 
 /// A number of bytes.
+#[derive(Clone, Copy)]
 pub struct ByteCount;
 
 impl ByteCount {

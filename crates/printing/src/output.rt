@@ -4,6 +4,7 @@ ghost use Rattle.std.specs.Prelude.{◌+◌, ◌≤◌, [], ◌∷◌, length};
 ghost use Rattle.printing.specs.Output.{Put, decimal_to};
 
 /// Digits of a number.
+#[derive(Clone, Copy)]
 pub struct Digits;
 
 impl Digits {

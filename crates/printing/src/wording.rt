@@ -11,6 +11,7 @@ use snapshot::layout::Layout;
 use snapshot::refusal::Refusal;
 
 /// A number of bytes.
+#[derive(Clone, Copy)]
 pub struct TextBytes;
 
 impl TextBytes {

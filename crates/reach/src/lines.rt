@@ -6,6 +6,7 @@ ghost use Rattle.reach.specs.Reached.{ReachLineOn};
 
 use crate::one_line::put_reach;
 use crate::parts::Viewer;
+use crate::parts::tell::tell_reach;
 use crate::reach_on;
 use accept::check::Refused;
 use snapshot::ids::Area;
@@ -22,6 +23,7 @@ pub fn reach_line_on(
     requires { Judged words.now area.old c × (line_limit ≤ length out.old) }
     ensures { ReachLineOn words.now v c area.new out.old out.new result }
 {
-    let r = reach_on(words, area, c, v);
-    put_reach(out, r)
+    let mut counts = [0usize; 21];
+    let number = tell_reach(reach_on(words, area, c, v), &mut counts);
+    put_reach(out, number, &counts)
 }

@@ -5,13 +5,11 @@ ghost use Rattle.std.specs.Prelude.{map, ◌++◌, ◌*◌, ◌≤◌, ◌<◌, 
 ghost use Rattle.snapshot.specs.Limits.{line_limit};
 ghost use Rattle.printing.specs.Output.{Put};
 ghost use Rattle.find_path_spec.specs.Line.{bytes_of, decimal, joined};
-ghost use Rattle.reach.specs.parts.Reach.{reach_line, told};
+ghost use Rattle.reach.specs.parts.Reach.{reach_line};
 
-use crate::parts::Reach;
 use line::put_refusal;
 use line::text::put_number;
 use printing::output::put;
-use snapshot::refusal::Refusal;
 
 // Puts numbers at the front, with a blank between them.
 fn put_numbers(out: &mut [u8], numbers: &[usize]) -> usize
@@ -27,17 +25,14 @@ fn put_numbers(out: &mut [u8], numbers: &[usize]) -> usize
     to
 }
 
-/// Puts the line of a reach and its end at the front, and answers its length.
-pub fn put_reach(out: &mut [u8], r: Result<Reach, Refusal>) -> usize
+/// Puts the line of what is told of a reach, a number and counts, and its end at the front, and answers its length. Any number but 0 is a refusal's.
+pub fn put_reach(out: &mut [u8], number: usize, counts: &[usize; 21]) -> usize
     requires { line_limit ≤ length out.old }
-    ensures { Put out.old 0 (reach_line (told r) ++ bytes_of "\n") out.new result }
+    ensures { Put out.old 0 (reach_line (record { number = number; counts = counts.now }) ++ bytes_of "\n") out.new result }
 {
-    match r {
-        Ok(reach) => {
-            let counts = reach.counts;
-            let a = put_numbers(out, &counts);
-            put(out, a, b"\n")
-        }
-        Err(why) => put_refusal(out, why.number()),
+    if number != 0 {
+        return put_refusal(out, number);
     }
+    let a = put_numbers(out, counts);
+    put(out, a, b"\n")
 }

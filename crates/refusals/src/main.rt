@@ -15,10 +15,10 @@ const LIST: usize = 65536;
 const SPACE: usize = 16400;
 
 fn main(rt: HostRuntime) -> io::Result<()> {
-    let alloc = rt.alloc();
-    let mut list = vec![in alloc; 0; LIST]?;
-    let mut area = vec![in alloc; 0; SPACE]?;
+    let mut list = [0u8; LIST];
+    let mut space = [0u32; SPACE];
+    let mut area = [0u32; SPACE];
     let n = read_as_far(&rt, &mut list);
-    cases::run(&rt, &list[..n], &mut area)?;
+    cases::run(&rt, &list[..n], &mut space, &mut area)?;
     area::run(&rt, &mut area)
 }

@@ -1,20 +1,14 @@
 //! Whether the lines of an input are those that are stored.
-ghost use Rattle.std.specs.Prelude.{◌≤◌, vec_len};
-ghost use Rattle.snapshot.specs.Limits.{word_limit, routed_limit};
-
 use printer::each::each_line;
 use printer::route::RoutedBytes;
 use snapshot::ids::{Area, WordCount};
-use std::alloc::{AllocError, Global};
 
 /// The memory of a printer: an input's words, the work area and a line.
 #[derive(Drop)]
 pub struct Space {
-    words: Vec<u32>,
-    area: Box<Area>,
-    out: Vec<u8>,
-    ghost words_in_bounds: { word_limit ≤ vec_len words },
-    ghost line_in_bounds: { routed_limit ≤ vec_len out },
+    pub words: [u32; WordCount::SNAPSHOT],
+    pub area: Area,
+    pub out: [u8; RoutedBytes::LIMIT],
 }
 
 // A line that is not as stored.
@@ -22,14 +16,6 @@ pub struct Space {
 struct Differs;
 
 impl Space {
-    pub(crate) fn new(alloc: Global) -> Result<Space, AllocError> {
-        Ok(Space {
-            words: vec![in alloc; 0; WordCount::SNAPSHOT]?,
-            area: Box::new(alloc, [0; WordCount::AREA])?,
-            out: vec![in alloc; 0; RoutedBytes::LIMIT]?,
-        })
-    }
-
     /// Whether the printer prints these lines for an input.
     pub(crate) fn prints(&mut self, bytes: &[u8], lines: &[u8]) -> bool {
         let mut rest = lines;

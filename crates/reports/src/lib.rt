@@ -93,6 +93,7 @@ pub fn reported(f: Found, misleads: bool) -> Report
 }
 
 /// A number of words.
+#[derive(Clone, Copy)]
 pub struct ReportWords;
 
 impl ReportWords {

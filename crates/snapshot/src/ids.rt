@@ -202,6 +202,7 @@ impl PathKind {
 }
 
 /// The length that a path may still have.
+#[derive(Clone, Copy)]
 pub struct PathLen;
 
 impl PathLen {
@@ -223,6 +224,7 @@ impl Prefix {
 }
 
 /// The options of a question, added up.
+#[derive(Clone, Copy)]
 pub struct Options;
 
 impl Options {
@@ -245,6 +247,7 @@ impl Options {
 }
 
 /// Charges that a question may make.
+#[derive(Clone, Copy)]
 pub struct Fuel;
 
 impl Fuel {
@@ -253,6 +256,7 @@ impl Fuel {
 }
 
 /// A number of words.
+#[derive(Clone, Copy)]
 pub struct WordCount;
 
 impl WordCount {

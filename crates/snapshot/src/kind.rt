@@ -52,6 +52,7 @@ impl Kind {
 }
 
 /// The words of a record of each kind, its head included; a name's depend on its text. Then those of a question, and of one for a reach.
+#[derive(Clone, Copy)]
 pub struct Size;
 
 impl Size {

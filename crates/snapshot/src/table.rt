@@ -8,6 +8,7 @@ use crate::kind::Size;
 use crate::reading::word;
 
 /// The first word of each table, and the first word past them.
+#[derive(Clone, Copy)]
 pub struct Tables;
 
 impl Tables {

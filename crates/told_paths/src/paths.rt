@@ -18,6 +18,7 @@ use snapshot::ids::PathKind;
 use snapshot::reading::word;
 
 /// Names of a path.
+#[derive(Clone, Copy)]
 pub struct NameCount;
 
 impl NameCount {

@@ -6,6 +6,7 @@ use snapshot::table::Tables;
 
 /// The first word of the heads, a word a key, of the marks, a word a module, and of the links, a word a number. What lies before the end of
 /// the marks is cleared at first; the word there is marked for definitions of no module.
+#[derive(Clone, Copy)]
 pub struct Chains;
 
 impl Chains {

@@ -23,7 +23,7 @@ use Rattle.record_index.specs.declared.chains.Chain.TheVariants.{Modules}
 use Rattle.accept.specs.Post.{Reads}
 use Rattle.accept.specs.Valid.{Each, more}
 use Rattle.accept.proofs.Accepted.{by_test}
-use Rattle.accept.proofs.Bools.{each_map}
+use Rattle.accept.proofs.Bools.{and_left, each_map}
 use Rattle.module_tree.proofs.Reading.{crate_there, root_read}
 use Rattle.hir_def.specs.Finds.{select}
 use Rattle.hir_def.specs.Entries.{left_of, Meets, Ends}
@@ -40,12 +40,14 @@ use Rattle.hir_def.proofs.Chains.{parent_fits, block_falls}
 use Rattle.hir_def.proofs.Reading.{length_modules}
 use Rattle.find_path_spec.specs.declared.FindPathCtx.{FindPathCtx}
 use Rattle.find_path_spec.specs.Rules.{module_in, may_be_in_scope, parent_kind, is_kw_kind_relative_to_from, keyword_of}
+use Rattle.find_path_spec.specs.Local.{is_importable, importable_name}
+use Rattle.find_path_spec.specs.laws.Near.{imports}
 use Rattle.find_path_spec.proofs.laws.Tables.{same_snap, same_reads}
 use Rattle.find_path_local.specs.distances.Distances.{distance, Named, is_keyword}
 use Rattle.find_path_local.specs.distances.Post.{Ready, Cleared, Rooted, Marked, Lowers}
 use Rattle.find_path_local.proofs.distances.Lowering.{lowers_same, lowers_then, lowers_snap, lowers_ready, lowers_far, set_lowers, distances_less}
 use Rattle.find_path_local.proofs.distances.Lowering.{all_less}
-use Rattle.find_path_local.proofs.distances.Near.{ruled_one}
+use Rattle.find_path_local.proofs.distances.Near.{some_is, import_for, import_passes, ruled_one}
 
 -- a module is marked
 module _ (A : List ℕ) (m : ℕ) (size : length A ≡ area_limit) (known : m < module_limit) where
@@ -187,6 +189,24 @@ pub marked_named : (W A₀ : List ℕ) (l : Layout) (c : ℕ) (A : List ℕ)
 unfolding marks Named
 marked_named W A₀ l c A h =
     each_map (λ e q m o i. let x = module_entry (snap_of W A₀ l) e c m o i in subst (λ y. distance A y ≤ 1) x.1 (q x.0)) h
+
+-- Of the entries of c for modules: what is so, by module and owner, of those that the viewer can import is so of all whose module it can import
+-- from c, since the lookup gives one of the former.
+pub imported_each : (s : Snapshot) (x : FindPathCtx) (P : ℕ → ℕ → Type 0) (c : ℕ)
+    → Each (λ e. is_module_entry s c e ≡ true → is_importable s x e ≡ true → P (entry_module s e) e.owner) s.scopes
+    → Each (λ e. is_module_entry s c e ≡ true → imports s x (entry_module s e) e.owner ≡ true → P (entry_module s e) e.owner) s.scopes
+unfolding imports
+imported_each s x P c all =
+    each_map
+    (λ e _ t i.
+    let m = entry_module s e in
+    let (y, k) = some_is (importable_name s x (module_item m) e.owner) i in
+    let f = import_for s x (λ z. is_module_entry s c z ≡ true → is_importable s x z ≡ true → P (entry_module s z) z.owner) all e.owner m y k in
+    let o = eqb-true e.owner c (and_left _ _ t) in
+    let g = module_entry s y c m (f.1 ∙ o) f.2 in
+    let p = f.0 g.0 (import_passes s x (module_item m) e.owner y k) in
+    subst (λ z. P z e.owner) g.1 (subst (P (entry_module s y)) f.1 p))
+    all
 
 -- a module with a keyword is the viewer's or its parent
 module _ (s : Snapshot) (x : FindPathCtx) where

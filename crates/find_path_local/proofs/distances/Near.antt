@@ -137,6 +137,11 @@ module _ (s : Snapshot) (x : FindPathCtx) where
   unfolding importable_name
   import_for P all a m e k = preferred_for P all a m x.fresh _ _ e (name_for P all a m e) (import_some _ e k).0
 
+  -- the viewer can import it
+  pub import_passes : (item : Item) (a : ℕ) (e : Scope) → importable_name s x item a ≡ Some e → is_importable s x e ≡ true
+  unfolding importable_name
+  import_passes item a e k = (import_some _ e k).1
+
   module _ (n : ℕ) (d : ℕ → ℕ) (r : Ruled s x n d) where
     in_scope : (m : ℕ) (e : Scope) → may_be_in_scope s x ≡ true → find_in_scope s x (module_item m) ≡ Some e → d m ≤ 1
     unfolding find_in_scope scope_entry Named

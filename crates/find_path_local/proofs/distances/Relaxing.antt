@@ -5,7 +5,7 @@ use mathlib.Core.List.{List, [], ◌∷◌, ◌++◌}
 use mathlib.Core.Bool.{Bool, true, false, ◌&&◌, ◌||◌, true≢false, false≢true}
 use native.Mathlib.Omega.{arith}
 use lib.Dec.{eqb, ltb}
-use lib.ListN.{length, get_or, set, take}
+use lib.ListN.{length, get_or, set, take, replicate, length-replicate, get_or-replicate, get_or-eq_default}
 use lib.Seq.{get_or-set_same, get_or-set_other, take-set-le}
 use borrow.Author.Tests.{eqb-true, eqb-false, ltb-true, ltb-false, lt-ltb}
 use Rattle.snapshot.specs.Sizes.{scope_size}
@@ -30,7 +30,7 @@ use Rattle.hir_def.specs.Entries.{entry_of}
 use Rattle.find_path_spec.specs.Local.{importable_name}
 use Rattle.find_path_spec.specs.laws.Near.{is_some, ruled, imports}
 use Rattle.find_path_spec.proofs.laws.Tables.{same_snap, same_reads}
-use Rattle.find_path_local.specs.distances.Distances.{distance, Stepped, Nearer, Opened, walk, Onward, Closed, distances_end}
+use Rattle.find_path_local.specs.distances.Distances.{distance, Stepped, Nearer, Relaxed, Opened, Tried, walk, Onward, Closed, distances_end}
 use Rattle.find_path_local.specs.distances.Post.{Ready, Marked, Lowers, Steps, Turned, Round, Bounded, Sifted}
 use Rattle.find_path_local.proofs.distances.Lowering.{rows_each, lowers_same, lowers_then, lowers_snap, set_lowers, distances_less}
 use Rattle.snapshot.specs.Lists.{any}
@@ -41,7 +41,7 @@ use Rattle.find_path_levels.specs.Levels.{run_at}
 use Rattle.find_path_levels.specs.walk_once.Walked.{walk_at, walk_count, Walked}
 use Rattle.find_path_levels.proofs.Rows.{take_less, agree}
 use Rattle.find_path_local.proofs.Knowns.{locations_there}
-use Rattle.find_path_local.proofs.distances.Marking.{module_entry}
+use Rattle.find_path_local.proofs.distances.Marking.{module_entry, imported_each}
 use Rattle.find_path_local.proofs.distances.Near.{closed_bounds}
 
 or_both : (a b : Bool) → (a || b) ≡ false → (a ≡ false) × (b ≡ false)
@@ -106,11 +106,47 @@ module _ (s : Snapshot) (x : FindPathCtx) (A : List ℕ) (d : ℕ) (e : Scope) {
   nearer_here size known some more i =
       subst (λ y. distance (set A (table_words + m) d) y ≤ d) q (omega (arith, set_here A m d size known some more))
 
+  pub nearer_tried : {c : ℕ} (T : List ℕ) → Tried s x T → c ≡ e.owner → get_or T m 0 ≡ c + 1 → Nearer s x (distance A) d e
+  unfolding Nearer Tried
+  nearer_tried {c} T f p h i = absurd (true≢false (sym i ∙ ap₂ (imports s x) (sym q) (sym p) ∙ f m c h))
+
+-- where no lookup failed yet, where one more did, and in the same snapshot
+module _ (s : Snapshot) (x : FindPathCtx) where
+  pub tried_start : (n : ℕ) → Tried s x (replicate n 0)
+  unfolding Tried
+  tried_start n m c h =
+      let zeros : List ℕ = replicate n 0 in
+      let none : get_or zeros m 0 ≡ 0 =
+      by_test (ltb m n) (λ t. get_or-replicate n m 0 0 (ltb-true m n t))
+      (λ t.
+      let long : length zeros ≡ n = length-replicate n 0 in
+      let past = ltb-false m n t in
+      get_or-eq_default zeros 0 (omega arith)) in
+      absurd (omega arith)
+
+  pub tried_set : (T : List ℕ) {m : ℕ} (c : ℕ) {w : ℕ} (W : List ℕ) {o : Option ℕ} → Tried s x T → m < length T → w ≡ c + 1
+      → entry_of scope_at W o ≡ importable_name s x (module_item m) c → o ≡ None → Tried s x (set T m w)
+  unfolding Tried imports
+  tried_set T {m} c {w} W f h e g n i k t =
+      by_same i m
+      (λ a.
+      let b : get_or (set T m w) m 0 ≡ k + 1 = ap (λ y. get_or (set T m w) y 0) (sym a) ∙ t in
+      let p : k ≡ c = omega (arith, b, e, get_or-set_same T m w 0 h) in
+      ap₂ (λ y z. is_some (importable_name s x (module_item y) z)) a p ∙ ap is_some (sym g ∙ ap (entry_of scope_at W) n))
+      (λ a. f i k (sym (get_or-set_other T m i w 0 a) ∙ t))
+
+pub tried_snap : {s t : Snapshot} (x : FindPathCtx) (T : List ℕ) → s ≡ t → Tried s x T → Tried t x T
+tried_snap x T e f = subst (λ (z : Snapshot). Tried z x T) e f
+
 -- of lower numbers
 pub nearer_down : (s : Snapshot) (x : FindPathCtx) (d : ℕ) (A B : List ℕ) → Lowers A B → (e : Scope) → Nearer s x (distance A) d e
     → Nearer s x (distance B) d e
 unfolding Nearer
 nearer_down s x d A B f e q i = let a = q i in let b = distances_less f (entry_module s e) in omega arith
+
+pub relaxed_down : (s : Snapshot) (x : FindPathCtx) (d : ℕ) (A B : List ℕ) → Lowers A B → (e : Scope) → Relaxed s x (distance A) d e
+    → Relaxed s x (distance B) d e
+relaxed_down s x d A B f e q t = nearer_down s x d A B f e (q t)
 
 pub opened_down : (s : Snapshot) (x : FindPathCtx) (m d : ℕ) (A B : List ℕ) → Lowers A B
     → Each (Opened s x (distance A) m d) s.scopes → Each (Opened s x (distance B) m d) s.scopes
@@ -118,9 +154,10 @@ unfolding Opened
 opened_down s x m d A B f h = each_map (λ e q t. nearer_down s x d A B f e (q t)) h
 
 pub opened_all : (s : Snapshot) (x : FindPathCtx) (m d : ℕ) (A : List ℕ)
-    → Each (λ e. is_module_entry s m e ≡ true → Nearer s x (distance A) d e) s.scopes → Each (Opened s x (distance A) m d) s.scopes
-unfolding Opened
-opened_all s x m d A h = h
+    → Each (λ e. is_module_entry s m e ≡ true → Relaxed s x (distance A) d e) s.scopes → Each (Opened s x (distance A) m d) s.scopes
+unfolding Opened Nearer
+opened_all s x m d A h =
+    each_map (λ e q t i. q t i i) (imported_each s x (λ n c. imports s x n c ≡ true → distance A n ≤ d) m h)
 
 -- a number that is not between d and 16
 pub far_left : (d w : ℕ) → (ltb d w && ltb w 16) ≡ false → d < w → 16 ≤ w
@@ -238,10 +275,12 @@ module _ (W A₀ : List ℕ) (l : Layout) (x : FindPathCtx) (y : Ready W A₀ l)
     pub settling_ready : Ready W A l
     settling_ready = record { reads = same_reads W A₀ A l v.marked.tables y.reads; area = v.size ∙ y.area }
 
+    pub settling_snap : snap_of W A l ≡ S₀
+    settling_snap = same_snap W A₀ A l v.marked.tables y.reads
+
     pub settling_walked : Walked (snap_of W A₀ l) x.from.0 A₀ → Walked (snap_of W A l) x.from.0 A
     settling_walked w =
-        subst (λ (s : Snapshot). Walked s x.from.0 A) (sym (same_snap W A₀ A l v.marked.tables y.reads))
-        (walked_beyond S₀ x.from.0 A₀ A w v.beyond)
+        subst (λ (s : Snapshot). Walked s x.from.0 A) (sym settling_snap) (walked_beyond S₀ x.from.0 A₀ A w v.beyond)
 
     -- no step is larger than 16
     step_far : (k : ℕ) → k < l.scopes → 15 ≤ distance A (entry_at W l k).owner → Stepped S₀ x (distance A) (entry_at W l k)
@@ -267,8 +306,8 @@ module _ (W A₀ : List ℕ) (l : Layout) (x : FindPathCtx) (y : Ready W A₀ l)
         (λ t _. step_far k o (let a = ltb-false (distance A (entry_at W l k).owner) d t in omega arith)))
 
     module _ {B : List ℕ} {r : Bool} (f : Round (snap_of W A l) x A (walk (snap_of W A l) x) d B r) where
-      sn : snap_of W A l ≡ S₀
-      sn = same_snap W A₀ A l v.marked.tables y.reads
+      abbrev sn : snap_of W A l ≡ S₀
+      sn = settling_snap
 
       less : (m : ℕ) → distance B m ≤ distance A m
       less = distances_less f.steps.lowers

@@ -30,8 +30,9 @@ use Rattle.find_path_levels.proofs.Stacks.{levels_same, chain_same, snap_at, rea
 use Rattle.find_path_local.specs.Post.{Searchable, Answered}
 use Rattle.find_path_local.specs.distances.Distances.{distances_end}
 use Rattle.find_path_local.specs.tight_rows.Rows.{rows_at, Rows}
-use Rattle.find_path_local.specs.near.Numbers.{number, Nearer, Opened}
+use Rattle.find_path_local.specs.near.Numbers.{number, Nearer, Relaxed, Opened}
 use Rattle.find_path_local.specs.near.Post.{Scratched, Falls}
+use Rattle.find_path_local.proofs.distances.Marking.{imported_each}
 use Rattle.find_path_local.proofs.distances.Relaxing.{by_same}
 use Rattle.find_path_local.proofs.tight_rows.Keeping.{rows_at_lem}
 use Rattle.find_path_local.proofs.Searches.{bounds_at, walked_kept, search_on}
@@ -165,12 +166,18 @@ pub nearer_down : (s : Snapshot) (x : FindPathCtx) (ls : List Level) (top k d : 
 unfolding Nearer
 nearer_down s x ls top k d A B f e q b i t = let a = q b i t in let z = falls_less f (entry_module s e) b in omega arith
 
+pub relaxed_down : (s : Snapshot) (x : FindPathCtx) (ls : List Level) (top k d : ℕ) (A B : List ℕ) → Falls top d A B → (e : Scope)
+    → Relaxed s x ls (number A top) k e → Relaxed s x ls (number B top) k e
+relaxed_down s x ls top k d A B f e q t = nearer_down s x ls top k d A B f e (q t)
+
 pub opened_down : (s : Snapshot) (x : FindPathCtx) (ls : List Level) (top c k d : ℕ) (A B : List ℕ) → Falls top d A B
     → Each (Opened s x ls (number A top) c k) s.scopes → Each (Opened s x ls (number B top) c k) s.scopes
 unfolding Opened
 opened_down s x ls top c k d A B f h = each_map (λ e q t. nearer_down s x ls top k d A B f e (q t)) h
 
 pub opened_all : (s : Snapshot) (x : FindPathCtx) (ls : List Level) (d : ℕ → ℕ) (c k : ℕ)
-    → Each (λ e. is_module_entry s c e ≡ true → Nearer s x ls d k e) s.scopes → Each (Opened s x ls d c k) s.scopes
-unfolding Opened
-opened_all s x ls d c k h = h
+    → Each (λ e. is_module_entry s c e ≡ true → Relaxed s x ls d k e) s.scopes → Each (Opened s x ls d c k) s.scopes
+unfolding Opened Nearer
+opened_all s x ls d c k h =
+    each_map (λ e q t b i o. q t i b i o)
+    (imported_each s x (λ m a. m < module_limit → imports s x m a ≡ true → has (locations s x ls m) a ≡ true → d m ≤ k) c h)

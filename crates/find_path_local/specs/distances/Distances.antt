@@ -10,6 +10,7 @@ use Rattle.hir_def.specs.Nameres.{ancestor_maps, prelude_of}
 use Rattle.find_path_spec.specs.declared.FindPathCtx.{FindPathCtx}
 use Rattle.find_path_spec.specs.Rules.{may_be_in_scope, is_kw_kind_relative_to_from, keyword_of}
 use Rattle.find_path_spec.specs.Walk.{has, find_local_import_locations}
+use Rattle.find_path_spec.specs.Local.{is_importable}
 use Rattle.find_path_spec.specs.laws.Near.{ruled, imports, near}
 
 -- they stand past the tables, a word a module
@@ -35,6 +36,14 @@ Stepped s x d e = (m : ℕ) → item_of s e.ns e.definition ≡ module_item m �
 -- an entry for a module that the viewer can import from the entry's module: its number is at most k
 unfoldable pub Nearer : Snapshot → FindPathCtx → (ℕ → ℕ) → ℕ → Scope → Type 0
 Nearer s x d k e = imports s x (entry_module s e) e.owner ≡ true → d (entry_module s e) ≤ k
+
+-- so, of an entry that the viewer can import
+abbrev pub Relaxed : Snapshot → FindPathCtx → (ℕ → ℕ) → ℕ → Scope → Type 0
+Relaxed s x d k e = is_importable s x e ≡ true → Nearer s x d k e
+
+-- Where the word of a module is a module's number +1, the viewer cannot import the former from the latter.
+unfoldable pub Tried : Snapshot → FindPathCtx → List ℕ → Type 0
+Tried s x T = (m c : ℕ) → get_or T m 0 ≡ c + 1 → imports s x m c ≡ false
 
 -- so, of the entries of the module c
 unfoldable pub Opened : Snapshot → FindPathCtx → (ℕ → ℕ) → ℕ → ℕ → Scope → Type 0

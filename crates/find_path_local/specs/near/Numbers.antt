@@ -5,6 +5,7 @@ use Rattle.snapshot.specs.Records.{Snapshot, Scope}
 use Rattle.hir_def.specs.ItemScope.{is_module_entry, entry_module}
 use Rattle.find_path_spec.specs.declared.FindPathCtx.{FindPathCtx}
 use Rattle.find_path_spec.specs.Walk.{Level, has}
+use Rattle.find_path_spec.specs.Local.{is_importable}
 use Rattle.find_path_spec.specs.laws.Near.{imports, locations}
 
 -- the word that counts the searches that found nothing
@@ -20,6 +21,10 @@ unfoldable pub Nearer : Snapshot → FindPathCtx → List Level → (ℕ → ℕ
 Nearer s x ls d k e =
     entry_module s e < module_limit → imports s x (entry_module s e) e.owner ≡ true → has (locations s x ls (entry_module s e)) e.owner ≡ true
     → d (entry_module s e) ≤ k
+
+-- so, of an entry that the viewer can import
+abbrev pub Relaxed : Snapshot → FindPathCtx → List Level → (ℕ → ℕ) → ℕ → Scope → Type 0
+Relaxed s x ls d k e = is_importable s x e ≡ true → Nearer s x ls d k e
 
 -- so, of the entries of the module c
 unfoldable pub Opened : Snapshot → FindPathCtx → List Level → (ℕ → ℕ) → ℕ → ℕ → Scope → Type 0

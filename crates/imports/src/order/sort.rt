@@ -14,6 +14,7 @@ use snapshot::records::Records;
 use snapshot::table::Tables;
 
 /// The first words of the lists in the work area, past the tables.
+#[derive(Clone, Copy)]
 pub struct Lists;
 
 impl Lists {

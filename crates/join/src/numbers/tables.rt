@@ -17,6 +17,7 @@ use snapshot::record::{definition_first, known_definition_kind};
 use snapshot::table::Tables;
 
 /// The first word of each table.
+#[derive(Clone, Copy)]
 pub struct Moved;
 
 impl Moved {

@@ -4,18 +4,13 @@ use mathlib.Core.Path.{◌≡◌, refl, sym, ◌∙◌, ap}
 use mathlib.Core.List.{List, [], ◌∷◌, ◌++◌, map, append_assoc, append-nil}
 use native.Mathlib.Omega.{arith}
 use native.Mathlib.Numerals.{add-one}
-use borrow.Author.Tests.{ne_eqb}
+use borrow.Author.Tests.{eq-eqb, ne_eqb}
 use lib.ListN.{length, take, drop, get_or, length-take, length-drop}
 use lib.Seq.{take-suc, take_all, get_or-take, get_or-drop}
-use Rattle.std.specs.Prelude.{Result, Ok, Err}
-use Rattle.snapshot.specs.Refusals.{refusal_number}
-use Rattle.snapshot.specs.declared.refusal.Refusal.{Refusal}
-use Rattle.snapshot.proofs.Laws.{refusal_some}
 use Rattle.check_rules.specs.Verdict.{empty}
 use Rattle.find_path_spec.specs.Line.{bytes_of, decimal, joined, line_in}
 use Rattle.find_path_spec.specs.Report.{refused}
-use Rattle.reach.specs.declared.parts.Reach.{Reach}
-use Rattle.reach.specs.parts.Reach.{reach_line, refused_reach, told}
+use Rattle.reach.specs.parts.Reach.{Reach, reach_line}
 
 -- one part more
 joined_more : (j p : List ℕ) (ps : List (List ℕ)) (q : List ℕ) → joined j ((p ∷ ps) ++ (q ∷ [])) ≡ joined j (p ∷ ps) ++ (j ++ q)
@@ -94,15 +89,14 @@ pub rest_done : (ns : List ℕ) (i : ℕ) → 1 ≤ i → i ≤ length ns → le
     → decimal (get_or ns 0 0) ++ rest_to ns i ≡ joined (bytes_of " ") (map decimal ns)
 rest_done ns i h l k = rest_all ns i h l ∙ numbers_done ns i k
 
-refusal_line : (k : Refusal) → line_in empty 0 (refused (refusal_number k)) ≡ reach_line (told (Err k))
-unfolding reach_line refused_reach
-refusal_line k = rw (reach_line, refused_reach, ne_eqb _ _ (refusal_some k))
+module _ (number : ℕ) (counts : List ℕ) where
+  abbrev Told : Reach
+  Told = record { number = number; counts = counts }
 
-module _ (r : Result Reach Refusal) where
-  pub refusal_text : (k : Refusal) (n : ℕ) → n ≡ refusal_number k → r ≡ Err k
-      → line_in empty 0 (refused n) ++ bytes_of "\n" ≡ reach_line (told r) ++ bytes_of "\n"
-  refusal_text k n q e = rw (q, e) (ap (λ x. x ++ bytes_of "\n") (refusal_line k))
-
-  pub counts_text : (t : Reach) → r ≡ Ok t → joined (bytes_of " ") (map decimal t.counts) ++ bytes_of "\n" ≡ reach_line (told r) ++ bytes_of "\n"
+  pub refusal_text : (number ≡ 0 → ⊥) → line_in empty 0 (refused number) ++ bytes_of "\n" ≡ reach_line Told ++ bytes_of "\n"
   unfolding reach_line
-  counts_text t e = rw e refl
+  refusal_text h = rw (reach_line, ne_eqb _ _ h)
+
+  pub counts_text : number ≡ 0 → joined (bytes_of " ") (map decimal counts) ++ bytes_of "\n" ≡ reach_line Told ++ bytes_of "\n"
+  unfolding reach_line
+  counts_text h = rw (reach_line, eq-eqb _ _ h)

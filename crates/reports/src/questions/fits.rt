@@ -6,6 +6,7 @@ use crate::ReportWords;
 use snapshot::kind::Size;
 
 /// A number of questions.
+#[derive(Clone, Copy)]
 pub struct QuestionCount;
 
 impl QuestionCount {

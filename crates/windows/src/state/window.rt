@@ -2,6 +2,7 @@
 ghost use Rattle.std.specs.Prelude.{◌≡◌, ◌+◌, ◌%◌, ◌<◌, ◌≤◌, None, Some};
 
 /// A number of windows.
+#[derive(Clone, Copy)]
 pub struct WindowCount;
 
 impl WindowCount {

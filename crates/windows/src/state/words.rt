@@ -7,6 +7,7 @@ use crate::state::rows::{Row, Windows, empty_row};
 use crate::state::window::{Window, WindowCount};
 
 /// A number of words.
+#[derive(Clone, Copy)]
 pub struct StateWords;
 
 impl StateWords {

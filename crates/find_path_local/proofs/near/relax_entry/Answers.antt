@@ -1,5 +1,6 @@
 use Prim.Native.Nat.{◌+◌, ◌≤◌, ◌<◌}
-use mathlib.Core.Path.{◌≡◌, ap, ◌∙◌}
+use mathlib.Core.Path.{◌≡◌, ap, sym, ◌∙◌}
+use mathlib.Core.Bool.{true≢false}
 use native.Mathlib.Omega.{arith}
 use lib.ListN.{length, set}
 use Rattle.snapshot.specs.Limits.{module_limit, area_limit}
@@ -22,9 +23,15 @@ returns-then-word-d c =
     let s = c.args.s in
     let t = c.first_of-m.ensures A ∙ ap (λ y. (definition_of S y).first) c.scope_definition.ensures in (
       falls_none s.top c.args.d A,
-      nearer_low S c.args.x (levels_of A s.place s.depth) (number A s.top) c.args.d (scope_at W c.args.h) t
+      λ _. nearer_low S c.args.x (levels_of A s.place s.depth) (number A s.top) c.args.d (scope_at W c.args.h) t
           (omega (arith, c.word.ensures, c.if-word-d.true)),
     )
+
+pub returns-then-not-is_importable : goal.returns-then-not-is_importable
+returns-then-not-is_importable c = (
+  falls_none c.args.s.top c.args.d c.args.area.now,
+  λ t. absurd (true≢false (sym t ∙ sym c.is_importable.ensures ∙ c.if-not-is_importable.true)),
+)
 
 pub returns-in_default : goal.returns-in_default
 returns-in_default c =
@@ -34,7 +41,7 @@ returns-in_default c =
     let s = c.args.s in
     let t = c.first_of-m.ensures A ∙ ap (λ y. (definition_of S y).first) c.scope_definition.ensures in (
       falls_none s.top c.args.d A,
-      nearer_hidden S c.args.x (levels_of A s.place s.depth) (number A s.top) c.args.d (scope_at W c.args.h) t W c.scope_owner-owner.ensures
+      λ _. nearer_hidden S c.args.x (levels_of A s.place s.depth) (number A s.top) c.args.d (scope_at W c.args.h) t W c.scope_owner-owner.ensures
           c.importable_name.ensures.0 c.in_default.is,
     )
 
@@ -54,7 +61,7 @@ returns-then-not-takes c =
     let t = c.first_of-m.ensures A ∙ ap (λ y. (definition_of S y).first) c.scope_definition.ensures in
     let B = c.takes.new.area in (
       falls_past s.top c.args.d A B c.takes.ensures.0,
-      nearer_untaken S c.args.x (levels_of A s.place s.depth) (number B s.top) c.args.d (scope_at W c.args.h) t c.scope_owner-owner.ensures
+      λ _. nearer_untaken S c.args.x (levels_of A s.place s.depth) (number B s.top) c.args.d (scope_at W c.args.h) t c.scope_owner-owner.ensures
           c.takes.ensures.1 c.if-not-takes.true,
     )
 
@@ -76,5 +83,5 @@ returns c =
     let size : length B ≡ area_limit = omega (arith, c.takes.auto.area, y.area) in
     let h = put_here s.top B m d room size known more in (
       falls_on s.top d A B (set B (s.top + m) d) (falls_past s.top d A B c.takes.ensures.0) (falls_set s.top B m d room size known more),
-      nearer_low S c.args.x (levels_of A s.place s.depth) (number (set B (s.top + m) d) s.top) d (scope_at W c.args.h) t (omega (arith, h)),
+      λ _. nearer_low S c.args.x (levels_of A s.place s.depth) (number (set B (s.top + m) d) s.top) d (scope_at W c.args.h) t (omega (arith, h)),
     )

@@ -8,10 +8,10 @@ use Rattle.hir_def.proofs.Fits.{few_words, module_meets}
 use Rattle.hir_def.proofs.item_scope.Along.{met_below}
 use Rattle.find_path_spec.specs.Walk.{Level}
 use Rattle.find_path_levels.specs.Levels.{levels_of}
-use Rattle.find_path_local.specs.near.Numbers.{number, Nearer}
+use Rattle.find_path_local.specs.near.Numbers.{number, Relaxed}
 use Rattle.find_path_local.specs.near.Post.{Falls}
 use Rattle.find_path_local.proofs.distances.Marking.{along_start, along_next, along_done}
-use Rattle.find_path_local.proofs.near.Falling.{falls_none, falls_on, kept, kept_snap, kept_levels, nearer_down, opened_all}
+use Rattle.find_path_local.proofs.near.Falling.{falls_none, falls_on, kept, kept_snap, kept_levels, relaxed_down, opened_all}
 use Rattle.find_path_local.proofs.near.relax_scope.Goals as goal
 
 pub loop-next-init : goal.loop-next-init
@@ -22,7 +22,7 @@ loop-next-init c =
     let s = c.args.s in
     let ls = levels_of A s.place s.depth in
     along_start (Falls s.top c.args.d) (falls_none s.top c.args.d) (falls_on s.top c.args.d) c.args.records.now.words.now A l c.args.m.0
-    (λ B. Nearer S c.args.x ls (number B s.top) c.args.d) (nearer_down S c.args.x ls s.top c.args.d c.args.d)
+    (λ B. Relaxed S c.args.x ls (number B s.top) c.args.d) (relaxed_down S c.args.x ls s.top c.args.d c.args.d)
 
 pub invariant_of-db : goal.invariant_of-db
 invariant_of-db c = record { reads = (kept c.requires.0 c.loop-next.invariant.moves.scratched c.loop-next.invariant.size).reads }
@@ -68,11 +68,11 @@ loop-next-preserved c =
     let f = c.relax_entry.ensures in
     let B = c.relax_entry.new.area in
     let y = c.requires.0 in
-    let q = subst (λ (z : Snapshot). Nearer z c.args.x ls (number B s.top) c.args.d (scope_at W c.in-Some.next.head)) (kept_snap y v.moves.scratched)
-    (subst (λ (z : List Level). Nearer (snap_of W c.loop-next.area l) c.args.x z (number B s.top) c.args.d (scope_at W c.in-Some.next.head))
+    let q = subst (λ (z : Snapshot). Relaxed z c.args.x ls (number B s.top) c.args.d (scope_at W c.in-Some.next.head)) (kept_snap y v.moves.scratched)
+    (subst (λ (z : List Level). Relaxed (snap_of W c.loop-next.area l) c.args.x z (number B s.top) c.args.d (scope_at W c.in-Some.next.head))
     (kept_levels y v.moves.scratched) f.1) in
     along_next (Falls s.top c.args.d) (falls_none s.top c.args.d) (falls_on s.top c.args.d) W A l c.args.m.0
-    (λ B. Nearer S c.args.x ls (number B s.top) c.args.d) (nearer_down S c.args.x ls s.top c.args.d c.args.d) v B
+    (λ B. Relaxed S c.args.x ls (number B s.top) c.args.d) (relaxed_down S c.args.x ls s.top c.args.d c.args.d) v B
     (next_record (c.modules_in_scope.ensures A) c.in-Some.is) f.0 q (c.relax_entry.auto.area)
 
 pub returns-in_default : goal.returns-in_default
@@ -87,6 +87,6 @@ returns-in_default c =
       v.moves,
       opened_all S c.args.x ls (number c.loop-next.area s.top) c.args.m.0 c.args.d
           (along_done (Falls s.top c.args.d) (falls_none s.top c.args.d) (falls_on s.top c.args.d) W A l c.args.m.0
-          (λ B. Nearer S c.args.x ls (number B s.top) c.args.d) (nearer_down S c.args.x ls s.top c.args.d c.args.d) v
+          (λ B. Relaxed S c.args.x ls (number B s.top) c.args.d) (relaxed_down S c.args.x ls s.top c.args.d c.args.d) v
           (next_none (c.modules_in_scope.ensures A) c.in_default.is)),
     )
