@@ -55,12 +55,14 @@ fn is_on(area: &[u32], s: Stack, sought: Sought) -> bool
 }
 
 // Copies the first n modules of the walk.
-// `copy_within` alone; the function stays for its clause, in terms of runs.
+// A loop: `copy_within` has C bring a `memmove`.
 fn copy_walk(area: &mut [u32], to: usize, n: usize)
     requires { (walk_end ≤ to) × (to + module_limit ≤ length area.old) × (n ≤ module_limit) }
     ensures { Copied area.old to n area.new }
 {
-    area.copy_within(Walk::AT..Walk::AT + n, to);
+    for i in 0..n {
+        area[to + i] = area[Walk::AT + i];
+    }
 }
 
 /// The modules that a local search for the item takes, in order, as a run at the top: the walk, unless a level is for the item.

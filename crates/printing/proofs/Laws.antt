@@ -7,11 +7,9 @@ use native.Mathlib.Omega.{arith}
 use native.Mathlib.Numerals.{add-one}
 use native.Mathlib.Nat.{add-zero}
 use borrow.Author.Tests.{lt-ltb, le-ltb}
-use borrow.Rule.Slice.PartMut.{put_mid}
 use lib.Dec.{ltb}
 use lib.ListN.{length, get_or, take, drop, set, length-append, length-take, take-append-drop}
-use lib.Seq.{take-suc, take-suc-set, length-take-le, drop-set-lt, drop-drop}
-use Rattle.std.proofs.lemmas.Slice.{take-put_mid, drop-put_mid}
+use lib.Seq.{take-suc, take-suc-set, take-length, length-take-le, drop-set-lt, drop-drop}
 use Rattle.std.specs.Counts.{IsPrefixLen}
 use Rattle.snapshot.specs.Lists.{rows}
 use Rattle.snapshot.proofs.Laws.{rows_snoc}
@@ -85,15 +83,10 @@ put_next old out text at i v e h p q =
       rest = drop-set-lt (at + (i + 1)) out (at + i) v (omega arith) ∙ later out old (at + i) (at + (i + 1)) (omega arith) e.rest;
     }
 
--- a text put over the bytes at a place
-pub put_part : (old text ys : List ℕ) (at k : ℕ) → at + length text ≤ length old → k ≡ length text → ys ≡ text
-    → Put old at text (put_mid at k old ys) (at + length text)
-put_part old text ys at k h q e =
-    record {
-      next = refl;
-      same = take-put_mid at k old ys (at + length text) (ap (λ x. at + length x) (sym e)) (omega arith) ∙ ap (λ x. take at old ++ x) e;
-      rest = drop-put_mid at k old ys (at + length text) (omega arith) (omega arith) (ap length e ∙ sym q);
-    }
+pub put_end : (old new text : List ℕ) (at i : ℕ) → Put old at (take i text) new (at + i) → i ≡ length text
+    → Put old at text new (at + length text)
+put_end old new text at i e q =
+    subst (λ r. Put old at text new (at + r)) q (put_as (ap (λ n. take n text) q ∙ take-length text) e)
 
 -- digits
 

@@ -13,13 +13,15 @@ impl Digits {
 }
 
 /// Puts a text at a place, and answers the place after it.
+// A loop: `copy_from_slice` has C bring a `memmove`.
 pub fn put(out: &mut [u8], at: usize, text: &[u8]) -> usize
     requires { at + length text.now ≤ length out.old }
     ensures { Put out.old at text.now out.new result }
 {
-    let end = at + text.len();
-    out[at..end].copy_from_slice(text);
-    end
+    for i in 0..text.len() {
+        out[at + i] = text[i];
+    }
+    at + text.len()
 }
 
 fn put_digit(out: &mut [u8], at: usize, digit: u64) -> usize

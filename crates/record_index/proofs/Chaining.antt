@@ -1,12 +1,18 @@
 -- The laws of the chains.
-use Prim.Native.Nat.{ℕ, ◌+◌, ◌≤◌, ◌<◌}
+use Prim.Native.Nat.{ℕ, ◌+◌, ◌-◌, ◌*◌, ◌/◌, ◌%◌, ◌≤◌, ◌<◌}
 use mathlib.Core.Path.{◌≡◌, refl, sym, ap, subst, ◌∙◌}
-use mathlib.Core.List.{List}
+use mathlib.Core.List.{List, ◌++◌}
+use native.Mathlib.Decide.{dec_le}
 use native.Mathlib.Omega.{arith}
-use Rattle.record_index.specs.Halves.{half_at}
+use borrow.Rule.Slice.PartMut.{put_mid}
+use lib.ListN.{length, get_or, take, drop, replicate, length-replicate, get_or-append, get_or-replicate}
+use lib.Seq.{get_or-append-add, get_or-take, get_or-drop, length-take-le}
+use Rattle.std.proofs.lemmas.Slice.{take-put_mid_below, drop-put_mid}
+use Rattle.snapshot.specs.Layouts.{row_words}
+use Rattle.record_index.specs.Halves.{half_of, half_at}
 use Rattle.record_index.specs.Index.{First, Chained}
 use Rattle.record_index.specs.Post.{Put, Beside, Cleared, Linking, Threaded}
-use Rattle.record_index.proofs.Halving.{by_same}
+use Rattle.record_index.proofs.Halving.{by_same, half_same, first_half, second_half}
 
 module _ (f : ℕ → ℕ) (n : ℕ) where
   module _ {m k : ℕ} where
@@ -37,21 +43,52 @@ pub first_next : (f : ℕ → ℕ) (n keys heads links : ℕ) (A : List ℕ) (m 
 first_next f n keys heads links A m j x h o e =
     subst (First f n m (j + 1)) (sym e) (subst (λ z. First f n z (j + 1) (half_at A (links + j))) o (x.links j (omega arith) h))
 
--- heads are cleared one by one
-pub cleared_start : (A : List ℕ) (heads end : ℕ) → Cleared A heads 0 end A
-cleared_start A heads end =
-    record { none = λ m h. absurd (omega arith); beside = record { others = λ j p q. refl; below = refl } }
+-- heads are cleared, two a word
+module _ (A ys : List ℕ) (heads keys end k j : ℕ) (even : heads % 2 ≡ 0) (pairs : keys % 2 ≡ 0) (p : k ≡ keys / 2) (q : j ≡ keys / 2)
+    (e : ys ≡ replicate j (end * 65537)) (small : end < 65536) (from : 2 * row_words ≤ heads) (fits : heads + keys ≤ 2 * length A) where
+  abbrev at : ℕ
+  at = heads / 2
 
-pub cleared_next : (A₀ A B : List ℕ) (heads m end : ℕ) → Put A (heads + m) end B → Cleared A₀ heads m end A → Cleared A₀ heads (m + 1) end B
-cleared_next A₀ A B heads m end p v =
-    record {
-      none = λ i h.
-          by_same i m (λ e. ap (λ z. half_at B (heads + z)) e ∙ p.here) (λ n. p.others (heads + i) (λ e. n (omega arith)) ∙ v.none i (omega arith));
-      beside = record {
-        others = λ j q r. p.others j (λ e. q (omega arith) (omega arith)) ∙ v.beside.others j (λ s t. q s (omega arith)) (λ s t. omega arith);
-        below = p.below ∙ v.beside.below;
-      };
-    }
+  abbrev B : List ℕ
+  B = put_mid at k A ys
+
+  both : (h : ℕ) → half_of h (end * 65537) ≡ end
+  both h = by_same h 0 (λ z. sym (first_half (end * 65537) z) ∙ omega arith) (λ n. sym (second_half (end * 65537) n) ∙ omega arith)
+
+  cleared_word : (i : ℕ) → i < keys / 2 → get_or B (at + i) 0 ≡ end * 65537
+  cleared_word i h =
+      let R = drop k (drop at A) in
+      let l : length (take at A) ≡ at = length-take-le at A (omega arith) in
+      ap (λ z. get_or (take at A ++ (ys ++ R)) (z + i) 0) (sym l) ∙ get_or-append-add (take at A) (ys ++ R) i 0
+      ∙ ap (λ z. get_or (z ++ R) i 0) (e ∙ ap (λ z. replicate z (end * 65537)) q)
+      ∙ get_or-append (replicate (keys / 2) (end * 65537)) R 0 i (simp length-replicate h) ∙ get_or-replicate (keys / 2) i (end * 65537) 0 h
+
+  before : (i : ℕ) → i < at → get_or B i 0 ≡ get_or A i 0
+  before i h = sym (get_or-take at B i 0 h) ∙ ap (λ z. get_or z i 0) (take-put_mid_below at k A ys at (omega arith) (omega arith)) ∙ get_or-take at A i 0 h
+
+  after : (i : ℕ) → at + k ≤ i → get_or B i 0 ≡ get_or A i 0
+  after i h =
+      let r : at + k + (i - (at + k)) ≡ i = omega arith in
+      ap (λ z. get_or B z 0) (sym r) ∙ sym (get_or-drop (at + k) B (i - (at + k)) 0)
+      ∙ ap (λ z. get_or z (i - (at + k)) 0)
+      (drop-put_mid at k A ys (at + k) (omega arith) (omega arith) (ap length e ∙ length-replicate j (end * 65537) ∙ q ∙ sym p))
+      ∙ get_or-drop (at + k) A (i - (at + k)) 0 ∙ ap (λ z. get_or A z 0) r
+
+  pub cleared_all : Cleared A heads keys end B
+  cleared_all =
+      record {
+        none = λ m h.
+            let r : (heads + m) / 2 ≡ at + m / 2 = omega (arith, even) in
+            ap (λ z. half_of ((heads + m) % 2) (get_or B z 0)) r ∙ ap (half_of ((heads + m) % 2)) (cleared_word (m / 2) (omega (arith, pairs, h)))
+            ∙ both ((heads + m) % 2);
+        beside = record {
+          others = λ i s t. half_same A B i (elim (dec_le heads i) [
+            | yes u ↦ let x : i < heads + keys → ⊥ = s u in after (i / 2) (omega (arith, even, pairs, p, x))
+            | no u ↦ before (i / 2) (omega (arith, even, u))
+          ]);
+          below = take-put_mid_below at k A ys row_words (omega arith) (omega arith);
+        };
+      }
 
 -- no record is chained yet
 pub threaded_start : (f : ℕ → ℕ) (A₀ A : List ℕ) (n keys heads links : ℕ) → heads + keys ≤ links → Cleared A₀ heads keys n A

@@ -1,5 +1,5 @@
 //! Chains: each record has a key, and leads to the next one with the same key.
-ghost use Rattle.std.specs.Prelude.{◌≡◌, ℕ, ◌+◌, ◌*◌, ◌≤◌, ◌<◌, ◌^◌, length};
+ghost use Rattle.std.specs.Prelude.{◌≡◌, ℕ, ◌+◌, ◌*◌, ◌%◌, ◌≤◌, ◌<◌, ◌^◌, length};
 ghost use Rattle.snapshot.specs.Layouts.{row_words};
 ghost use Rattle.record_index.specs.Index.{import_key, keys_of, heads_of, links_of, count_of};
 ghost use Rattle.record_index.specs.Post.{Room, Cleared, Linking, Threaded};
@@ -76,14 +76,13 @@ impl Chain {
     }
 }
 
-// Each key has no record yet.
+// Each key has no record yet: two heads a word.
 fn clear_heads(area: &mut [u32], heads: usize, keys: usize, end: usize)
-    requires { Room heads keys (heads + keys) end (length area.old) }
+    requires room { Room heads keys (heads + keys) end (length area.old) }
+    requires whole { (heads % 2 ≡ 0) × (keys % 2 ≡ 0) }
     ensures { Cleared area.old heads keys end area.new }
 {
-    for m in 0..keys {
-        put_half(area, heads + m, end);
-    }
+    area[heads / 2..(heads + keys) / 2].fill((end * 65537) as u32);
 }
 
 // The record k goes to the front of its key's chain.
@@ -97,6 +96,7 @@ fn link(area: &mut [u32], heads: usize, keys: usize, links: usize, key: usize, k
 }
 
 /// Chains so many records, whose keys are told.
+#[inline(always)]
 pub(crate) fn chain_records<F: Fn(usize) -> usize>(
     area: &mut [u32],
     heads: usize,
@@ -106,6 +106,7 @@ pub(crate) fn chain_records<F: Fn(usize) -> usize>(
     key: F,
 )
     requires room { Room heads keys links count (length area.old) }
+    requires whole { (heads % 2 ≡ 0) × (keys % 2 ≡ 0) }
     requires takes { (k : ℕ) → k < count → F.pre key k }
     requires there { (k c : ℕ) → k < count → F.post key k c → c < keys }
     ensures { (f : ℕ → ℕ) → ((k c : ℕ) → F.post key k c → c ≡ f k) → Threaded area.old f count keys heads links 0 area.new }

@@ -60,12 +60,15 @@ fn key(records: &Records, chain: Chain, k: usize) -> usize
 }
 
 // Chains all records.
+// The copy, which no write to the area can change, and a body for each chain keep what all keys have in common out of the loop.
+#[inline(always)]
 fn make_chain(records: &Records, area: &mut [u32], chain: Chain)
     requires { (table_words ≤ length area.old) × Sized records.now.words.now records.now.layout }
     ensures { Made records.now.words.now area.old records.now.layout chain area.new }
 {
-    let layout = records.layout;
-    let its = |k| key(records, chain, k);
+    let own = *records;
+    let layout = own.layout;
+    let its = |k| key(&own, chain, k);
     chain_records(
         area,
         chain.heads(),

@@ -1,30 +1,51 @@
 -- Laws of the loops that move words, and of the words that they leave.
-use Prim.Native.Nat.{ℕ, ◌+◌, ◌-◌, ◌≤◌}
-use mathlib.Core.Path.{◌≡◌, sym, ◌∙◌, ap, ap₂}
-use mathlib.Core.List.{List, ◌++◌, append_assoc}
+use Prim.Native.Nat.{ℕ, zero, suc, ◌+◌, ◌-◌, ◌≤◌, ◌<◌}
+use mathlib.Core.Path.{◌≡◌, sym, ◌∙◌, ap}
+use mathlib.Core.List.{List, [], ◌∷◌, ◌++◌, append_assoc}
 use native.Mathlib.Omega.{arith}
 use native.Mathlib.Decide.{dec_le}
-use borrow.Rule.Slice.PartMut.{put_mid}
-use lib.ListN.{length, get_or, take, drop, replicate, length-append, length-take, length-replicate, get_or-replicate}
-use lib.ListN.{get_or-append}
-use lib.Seq.{drop-drop, take_at, drop_at, take-take, get_or-take, get_or-append-add, length-take-le}
-use lib.Seq.{take-append-le, ext_get_or, paste}
-use Rattle.std.proofs.lemmas.Slice.{between_is}
+use native.Mathlib.Numerals.{add-one}
+use lib.ListN.{length, get_or, set, take, drop, replicate, length-append, length-take, length-replicate, get_or-replicate, take-append-drop}
+use lib.ListN.{drop_of_length-le, get_or-append}
+use lib.Seq.{append_snoc, take-suc, drop-cons, set_at, take_at, drop_at, take_all, take-take, get_or-take, get_or-drop, get_or-append-add, length-take-le}
+use lib.Seq.{take-append-le, ext_get_or, paste, paste-suc}
 use Rattle.snapshot.specs.Sizes.{scope_size}
 use Rattle.check_records.specs.chains.Chains.{Cleared}
 use Rattle.edit_rules.specs.Entries.{inserted, cut}
-use Rattle.edit_rules.proofs.scope_edits.Lists.{inserted_length, cut_length}
+use Rattle.edit_rules.proofs.scope_edits.Lists.{inserted_length, cut_length, cut_after}
 
--- the words that are moved up
+-- a list whose word after p is stored
+store_seam : (p R : List ℕ) (y v n : ℕ) → length p ≡ n → set (p ++ (y ∷ []) ++ R) n v ≡ p ++ (v ∷ R)
+store_seam p R y v n e = ap (λ l. set l n v) (append_snoc p y R) ∙ set_at p y R v n e
 
-pub moved_up : (W : List ℕ) (at count : ℕ) → at ≤ count
-    → paste W (at + scope_size) (drop at W) (count - at) ≡ take (at + scope_size) W ++ (drop at (take count W) ++ drop (count + scope_size) W)
-moved_up W at count h =
-    let e : at + scope_size + (count - at) ≡ count + scope_size = omega arith in
-    append_assoc (take (at + scope_size) W) (take (count - at) (drop at W)) (drop (at + scope_size + (count - at)) W)
-    ∙ ap₂ (λ x n. take (at + scope_size) W ++ (x ++ drop n W)) (between_is W at count) e
+-- upwards
 
--- and down
+pub up_start : (W : List ℕ) (count : ℕ) → count ≤ length W
+    → W ≡ take (count + scope_size) W ++ (drop count (take count W) ++ drop (count + scope_size) W)
+up_start W count h =
+    let e : drop count (take count W) ≡ [] = drop_of_length-le (take count W) {i = count} (simp length-take (omega arith)) in
+    sym (ap (λ l. take (count + scope_size) W ++ (l ++ drop (count + scope_size) W)) e ∙ take-append-drop (count + scope_size) W)
+
+pub up_next : (W l Z : List ℕ) (count i j : ℕ) → j + 1 ≡ i → i ≤ count → count + scope_size ≤ length W
+    → l ≡ take (i + scope_size) W ++ (drop i (take count W) ++ Z)
+    → set l (j + scope_size) (get_or l j 0) ≡ take (j + scope_size) W ++ (drop j (take count W) ++ Z)
+up_next W l Z count i j e h g k =
+    let S = take count W in
+    let R = drop i S ++ Z in
+    let long : length (take (i + scope_size) W) ≡ i + scope_size = length-take-le (i + scope_size) W (omega arith) in
+    let v : get_or l j 0 ≡ get_or W j 0 =
+    ap (λ x. get_or x j 0) k ∙ get_or-append (take (i + scope_size) W) R 0 j (omega arith) ∙ get_or-take (i + scope_size) W j 0 (omega arith) in
+    let n : i + scope_size ≡ suc (j + scope_size) = omega arith in
+    let a : l ≡ take (j + scope_size) W ++ (get_or W (j + scope_size) 0 ∷ []) ++ R = k ∙ ap (λ m. take m W ++ R) n
+    ∙ ap (λ x. x ++ R) (take-suc W (j + scope_size) 0 (omega arith)) in
+    let b : drop j S ≡ get_or W j 0 ∷ drop i S =
+    drop-cons S j 0 (simp length-take (omega arith)) ∙ ap (λ x. x ∷ drop (suc j) S) (get_or-take count W j 0 (omega arith))
+    ∙ (let q : suc j ≡ i = omega arith in ap (λ m. get_or W j 0 ∷ drop m S) q) in
+    ap (λ x. set l (j + scope_size) x) v ∙ ap (λ x. set x (j + scope_size) (get_or W j 0)) a
+    ∙ store_seam (take (j + scope_size) W) R (get_or W (j + scope_size) 0) (get_or W j 0) (j + scope_size) (length-take-le (j + scope_size) W (omega arith))
+    ∙ ap (λ x. take (j + scope_size) W ++ (x ++ Z)) (sym b)
+
+-- downwards
 
 module _ (W : List ℕ) (at count : ℕ) (h : at + scope_size ≤ count) (g : count ≤ length W) where
   fits : at + scope_size ≤ length (take count W)
@@ -33,17 +54,55 @@ module _ (W : List ℕ) (at count : ℕ) (h : at + scope_size ≤ count) (g : co
   down_long : length (cut at scope_size (take count W)) + scope_size ≡ count
   down_long = cut_length (take count W) at scope_size fits ∙ length-take-le count W g
 
-  pub moved_down : paste W at (drop (at + scope_size) W) (count - (at + scope_size)) ≡ cut at scope_size (take count W) ++ drop (count - scope_size) W
-  moved_down =
-      let e : at + (count - (at + scope_size)) ≡ count - scope_size = omega arith in
-      ap₂ (λ x y. x ++ y ++ drop (at + (count - (at + scope_size))) W) (sym (take-take at count W (omega arith)))
-      (between_is W (at + scope_size) count)
-      ∙ ap (λ n. cut at scope_size (take count W) ++ drop n W) e
+  pub down_start : W ≡ take at (cut at scope_size (take count W)) ++ drop at W
+  down_start =
+      let l : length (take at (take count W)) ≡ at = length-take-le at (take count W) (let f = fits in omega arith) in
+      sym (ap (λ x. x ++ drop at W) (take_at (take at (take count W)) (drop (at + scope_size) (take count W)) at l
+      ∙ take-take at count W (omega arith)) ∙ take-append-drop at W)
 
--- a record written over the words at a place
-pub put_in : (W R ys : List ℕ) (at k : ℕ) → k ≡ scope_size → ys ≡ R → put_mid at k W ys ≡ take at W ++ (R ++ drop (at + scope_size) W)
-put_in W R ys at k q e =
-    ap₂ (λ x j. take at W ++ (x ++ drop j (drop at W))) e q ∙ ap (λ x. take at W ++ (R ++ x)) (drop-drop scope_size at W)
+  pub down_next : (l : List ℕ) (i : ℕ) → at ≤ i → i + scope_size < count → l ≡ take i (cut at scope_size (take count W)) ++ drop i W
+      → set l i (get_or l (i + scope_size) 0) ≡ take (i + 1) (cut at scope_size (take count W)) ++ drop (i + 1) W
+  down_next l i a b e =
+      let C = cut at scope_size (take count W) in
+      let d = down_long in
+      let n : length (take i C) ≡ i = length-take-le i C (omega arith) in
+      let v : get_or l (i + scope_size) 0 ≡ get_or W (i + scope_size) 0 =
+      ap (λ x. get_or x (i + scope_size) 0) e ∙ ap (λ m. get_or (take i C ++ drop i W) (m + scope_size) 0) (sym n)
+      ∙ get_or-append-add (take i C) (drop i W) scope_size 0 ∙ get_or-drop i W scope_size 0 in
+      let to : at + (i - at) ≡ i = omega arith in
+      let from : at + scope_size + (i - at) ≡ i + scope_size = omega arith in
+      let w : get_or C i 0 ≡ get_or W (i + scope_size) 0 =
+      ap (λ m. get_or C m 0) (sym to) ∙ cut_after (take count W) at scope_size fits (i - at) ∙ ap (λ m. get_or (take count W) m 0) from
+      ∙ get_or-take count W (i + scope_size) 0 b in
+      let s : take (i + 1) C ≡ take i C ++ (get_or W (i + scope_size) 0 ∷ []) = rw (add-one i) (take-suc C i 0 (omega arith)
+      ∙ ap (λ x. take i C ++ (x ∷ [])) w) in
+      let t : drop i W ≡ get_or W i 0 ∷ drop (i + 1) W = rw (add-one i) (drop-cons W i 0 (omega arith)) in
+      ap (λ x. set l i x) v ∙ ap (λ x. set x i (get_or W (i + scope_size) 0)) (e ∙ ap (λ x. take i C ++ x) t)
+      ∙ set_at (take i C) (get_or W i 0) (drop (i + 1) W) (get_or W (i + scope_size) 0) i n
+      ∙ sym (append_snoc (take i C) (get_or W (i + scope_size) 0) (drop (i + 1) W))
+      ∙ ap (λ x. x ++ drop (i + 1) W) (sym s)
+
+  pub down_end : (l : List ℕ) (i : ℕ) → i + scope_size ≤ count → count ≤ i + scope_size → l ≡ take i (cut at scope_size (take count W)) ++ drop i W
+      → l ≡ cut at scope_size (take count W) ++ drop (count - scope_size) W
+  down_end l i a b e =
+      let d = down_long in
+      let q : i ≡ count - scope_size = omega arith in
+      e ∙ ap (λ x. x ++ drop i W) (take_all i (cut at scope_size (take count W)) (omega arith))
+      ∙ ap (λ m. cut at scope_size (take count W) ++ drop m W) q
+
+-- a record written
+
+pub put_next : (W l R : List ℕ) (at i : ℕ) → at + scope_size ≤ length W → length R ≡ scope_size → i < scope_size → l ≡ paste W at R i
+    → set l (at + i) (get_or R i 0) ≡ paste W at R (i + 1)
+put_next W l R at i h r k e =
+    ap (λ x. set x (at + i) (get_or R i 0)) e ∙ paste-suc W at R i 0 (omega arith) (omega arith) ∙ ap (paste W at R) (sym (add-one i))
+
+pub put_end : (W l R : List ℕ) (at i : ℕ) → length R ≡ scope_size → i ≤ scope_size → scope_size ≤ i → l ≡ paste W at R i
+    → l ≡ take at W ++ (R ++ drop (at + scope_size) W)
+put_end W l R at i r h k e =
+    let q : i ≡ scope_size = omega arith in
+    e ∙ ap (paste W at R) q ∙ ap (λ x. take at W ++ x ++ drop (at + scope_size) W) (take_all scope_size R (omega arith))
+    ∙ append_assoc (take at W) R (drop (at + scope_size) W)
 
 -- the words past a place cleared
 pub cleared_tail : (l m : List ℕ) (k : ℕ) → length m ≡ length l → k ≤ length l → Cleared l m k (length l) → m ≡ take k l ++ replicate (length l - k) 0

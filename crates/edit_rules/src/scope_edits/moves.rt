@@ -7,12 +7,15 @@ use check_records::chains::chain::clear;
 use snapshot::kind::Size;
 
 // Moves the words from a place to another up by the words of a record.
+// Loops, here and below: `copy_within` and `copy_from_slice` have C bring a `memmove`.
 fn move_up(words: &mut [u32], at: usize, count: usize)
     requires { (at ≤ count) × (count + scope_size ≤ length words.old) }
     ensures { words.new ≡ take (at + scope_size) words.old ++ (drop at (take count words.old)
         ++ drop (count + scope_size) words.old) }
 {
-    words.copy_within(at..count, at + Size::SCOPE);
+    for i in (at..count).rev() {
+        words[i + Size::SCOPE] = words[i];
+    }
 }
 
 // Writes a record over the words at a place.
@@ -21,7 +24,9 @@ fn put_record(words: &mut [u32], at: usize, added: &[u32])
     requires { (at + scope_size ≤ length words.old) × (length added.now ≡ scope_size) }
     ensures { words.new ≡ take at words.old ++ (added.now ++ drop (at + scope_size) words.old) }
 {
-    words[at..at + Size::SCOPE].copy_from_slice(added);
+    for i in 0..Size::SCOPE {
+        words[at + i] = added[i];
+    }
 }
 
 /// Puts a record in at a place of the first words, so many, and clears the words past them.
@@ -40,7 +45,9 @@ fn move_down(words: &mut [u32], at: usize, count: usize)
     requires { (at + scope_size ≤ count) × (count ≤ length words.old) }
     ensures { words.new ≡ cut at scope_size (take count words.old) ++ drop (count - scope_size) words.old }
 {
-    words.copy_within(at + Size::SCOPE..count, at);
+    for i in at..count - Size::SCOPE {
+        words[i] = words[i + Size::SCOPE];
+    }
 }
 
 /// Takes the record at a place out of the first words, so many, and clears the words past them.

@@ -1,25 +1,24 @@
 -- The laws of the walk that is done once.
-use Prim.Native.Nat.{ℕ, ◌+◌, ◌-◌, ◌≤◌}
+use Prim.Native.Nat.{ℕ, ◌+◌, ◌≤◌, ◌<◌}
 use mathlib.Core.Path.{◌≡◌, refl, sym, ap, ◌∙◌}
-use mathlib.Core.List.{List, [], ◌++◌, append_assoc}
+use mathlib.Core.List.{List, [], ◌∷◌, ◌++◌}
 use mathlib.Core.Bool.{false}
 use native.Mathlib.Omega.{arith}
-use lib.ListN.{length, get_or, set, take, drop}
-use lib.Seq.{take_at, length-take-le, paste, get_or-set_same, get_or-set_other, take-set-le}
-use Rattle.std.specs.List.{CopiedTo, SameFrom}
+use lib.ListN.{length, get_or, set, take}
+use lib.Seq.{get_or-set_same, get_or-set_other, take-set-le}
 use Rattle.snapshot.specs.Limits.{module_limit, area_limit}
 use Rattle.snapshot.specs.Lists.{any}
 use Rattle.snapshot.specs.Records.{Snapshot}
 use Rattle.snapshot.specs.Layouts.{snap_of}
 use Rattle.snapshot.specs.declared.layout.Layout.{Layout}
-use Rattle.snapshot.proofs.Laws.{rows_ext}
+use Rattle.snapshot.proofs.Laws.{rows_ext, rows_snoc}
 use Rattle.hir_def.specs.declared.Item.{Item}
 use Rattle.find_path_spec.specs.Walk.{visited, find_local_import_locations}
 use Rattle.find_path_spec.proofs.laws.Fewer.{walk_same}
 use Rattle.find_path_levels.specs.declared.Stack.{Stack}
 use Rattle.find_path_levels.specs.Levels.{run_at, levels_of}
 use Rattle.find_path_levels.specs.Post.{Gathered}
-use Rattle.find_path_levels.proofs.Rows.{agree, run_same}
+use Rattle.find_path_levels.proofs.Rows.{run_none, run_put, agree, run_same}
 use Rattle.find_path_levels.specs.walk_once.Walked.{walk_at, walk_count, walk_end, Walked}
 use Rattle.find_path_levels.specs.walk_once.Post.{Copied, Kept}
 
@@ -37,19 +36,22 @@ none_visited : (item : Item) (m : ℕ) → visited [] item m ≡ false
 unfolding visited any
 none_visited item m = refl
 
--- the first modules of the walk, copied
-pub copied_all : (A₀ A : List ℕ) (to m n : ℕ) → m ≡ n → n ≤ module_limit → to ≤ length A₀ → A ≡ paste A₀ to (drop walk_at A₀) m
-    → CopiedTo A₀ A walk_at to m → SameFrom A₀ A (to + m) → Copied A₀ to n A
-copied_all A₀ A to m n p few h e c f =
-    record {
-      run =
-          rows_ext (λ i. get_or A (to + i) 0) (λ i. get_or A₀ (walk_at + i) 0) n
-          (λ i k. let q : to + i - to ≡ i = omega arith in c (to + i) 0 (omega arith) (omega arith) ∙ ap (λ j. get_or A₀ (walk_at + j) 0) q);
-      below =
-          ap (take to) (e ∙ append_assoc (take to A₀) (take m (drop walk_at A₀)) (drop (to + m) A₀))
-          ∙ take_at (take to A₀) (take m (drop walk_at A₀) ++ drop (to + m) A₀) to (length-take-le to A₀ h);
-      above = λ i k. f i 0 (omega arith);
-    }
+-- one module more is copied
+module _ (A₀ : List ℕ) (to n : ℕ) (A : List ℕ) (v : Copied A₀ to n A) (past : walk_end ≤ to) (space : to + module_limit ≤ length A)
+    (few : n < module_limit) where
+  pub copied_next : {w : ℕ} → w ≡ get_or A (walk_at + n) 0 → Copied A₀ to (n + 1) (set A (to + n) w)
+  copied_next {w} e =
+      let o : w ≡ get_or A₀ (walk_at + n) 0 = e ∙ agree A A₀ to v.below (walk_at + n) (omega arith) in
+      record {
+        run =
+            run_put A to n w (omega arith) ∙ ap (λ z. z ++ (w ∷ [])) v.run ∙ ap (λ z. run_at A₀ walk_at n ++ (z ∷ [])) o
+            ∙ sym (rows_snoc (λ i. get_or A₀ (walk_at + i) 0) n);
+        below = take-set-le to A (to + n) w (omega arith) ∙ v.below;
+        above = λ i h. get_or-set_other A (to + n) i w 0 (λ q. omega arith) ∙ v.above i h;
+      }
+
+pub copied_start : (A : List ℕ) (to : ℕ) → Copied A to 0 A
+copied_start A to = record { run = run_none A to ∙ sym (run_none A walk_at); below = refl; above = λ i h. refl }
 
 -- the walk, copied, is the run of a search for an item that no level is for
 module _ (W A₀ : List ℕ) (l : Layout) (from : ℕ) (s : Stack) (item : Item) (w : Walked (snap_of W A₀ l) from A₀) where

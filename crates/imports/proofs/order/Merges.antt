@@ -5,11 +5,11 @@ use mathlib.Core.List.{List, [], ◌∷◌, ◌++◌, append_assoc}
 use mathlib.Core.Bool.{Bool, true, false, ◌&&◌, true≢false}
 use native.Mathlib.Omega.{arith}
 use native.Mathlib.Nat.{add-zero, zero-add}
+use borrow.Author.Count.{below_more}
 use borrow.Author.Tests.{lt-ltb, le-ltb, ltb-true, ltb-false}
 use lib.Dec.{ltb}
 use lib.ListN.{length, get_or, set, length-set}
 use lib.Seq.{get_or-set_same, get_or-set_other}
-use Rattle.std.specs.List.{CopiedTo, SameBelow}
 use Rattle.snapshot.specs.Lists.{rows}
 use Rattle.snapshot.specs.Records.{Scope, scope_at}
 use Rattle.snapshot.proofs.Laws.{rows_next, rows_none, rows_put, rows_ext, rows_whole}
@@ -24,14 +24,20 @@ use Rattle.imports.proofs.order.Sorts.{merge_second, merge_first, merge_none, so
 
 -- copying
 
-pub copied_all : (A B : List ℕ) (from m n : ℕ) → m ≡ n → length B ≡ length A → CopiedTo A B from spare_room m → SameBelow A B spare_room
-    → Copied A B from n
-copied_all A B from m n p e c b =
+pub copied_none : (A : List ℕ) (from : ℕ) → Copied A A from 0
+copied_none A from = record { size = refl; there = λ i h. absurd (omega arith); below = λ i h. refl }
+
+pub copied_more : (A B : List ℕ) (from i v : ℕ) → Copied A B from i → spare_room + i < length A → from + i < heads_room
+    → v ≡ get_or B (from + i) 0 → Copied A (set B (spare_room + i) v) from (i + 1)
+copied_more A B from i v c fits low e =
+    let z = c.size in
     record {
-      size = e;
-      there = λ i h. let q : spare_room + i - spare_room ≡ i = omega arith in
-          c (spare_room + i) 0 (omega arith) (omega arith) ∙ ap (λ j. get_or A (from + j) 0) q;
-      below = λ i h. b i 0 (omega arith);
+      size = length-set B (spare_room + i) v ∙ c.size;
+      there =
+          below_more (λ k. get_or (set B (spare_room + i) v) (spare_room + k) 0 ≡ get_or A (from + k) 0) i
+          (λ k h. get_or-set_other B (spare_room + i) (spare_room + k) v 0 (λ q. omega arith) ∙ c.there k h)
+          (get_or-set_same B (spare_room + i) v 0 (omega arith) ∙ e ∙ c.below (from + i) low);
+      below = λ k h. get_or-set_other B (spare_room + i) k v 0 (λ q. omega arith) ∙ c.below k h;
     }
 
 -- the rows from k on agree

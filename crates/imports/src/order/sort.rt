@@ -29,12 +29,14 @@ impl Lists {
 }
 
 // Copies words from a place on to the spare ones.
-// `copy_within` with its bound as a clause, which `merge` cites.
+// A loop: `copy_within` has C bring a `memmove`.
 fn copy(area: &mut Area, from: usize, n: usize)
     requires { (from + n ≤ heads_room) × (n ≤ 2048) }
     ensures { Copied area.old area.new from n }
 {
-    area.copy_within(from..from + n, Lists::SPARE);
+    for i in 0..n {
+        area[Lists::SPARE + i] = area[from + i];
+    }
 }
 
 // Whether the next entry of the second run, if there is one before its end, stands before that of the first.

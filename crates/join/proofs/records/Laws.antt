@@ -6,10 +6,8 @@ use mathlib.Core.Bool.{Bool, true, false, not}
 use native.Mathlib.Omega.{arith}
 use borrow.Author.Tests.{eq-eqb, ne_eqb, lt-ltb, le-ltb, ltb-true, ltb-false, leb-true, leb-false, not-true, not-false}
 use lib.Dec.{leb, ltb}
-use borrow.Rule.Slice.PartMut.{put_mid}
-use lib.ListN.{length, get_or, set, take, drop, length-append, get_or-append}
-use lib.Seq.{sets, length-sets, sets-eq, take_all, get_or-append-add}
-use Rattle.std.proofs.lemmas.Slice.{put_mid-paste}
+use lib.ListN.{length, get_or, set, length-append, get_or-append}
+use lib.Seq.{sets, length-sets, get_or-append-add}
 use Rattle.snapshot.specs.Limits.{word_limit}
 use Rattle.snapshot.specs.Lists.{rows}
 use Rattle.snapshot.specs.Words.{kind_of, pay_of, arguments_at}
@@ -17,7 +15,7 @@ use Rattle.snapshot.specs.Layouts.{dependency_base, map_base, child_base, prelud
 use Rattle.snapshot.specs.Layouts.{member_base}
 use Rattle.snapshot.specs.Layouts.{word_count}
 use Rattle.snapshot.specs.declared.layout.Layout.{Layout}
-use Rattle.snapshot.proofs.Laws.{past, rows_next, rows_none, rows_snoc, rows_part, length_rows, get_d_rows}
+use Rattle.snapshot.proofs.Laws.{past, rows_next, rows_none, rows_snoc, length_rows, get_d_rows}
 use Rattle.accept.proofs.Accepted.{by_test}
 use Rattle.accept.proofs.Turns.{arguments_few}
 use Rattle.edit_rules.specs.Written.{head_of, joined}
@@ -220,22 +218,6 @@ stored f {write} {to} n i T₀ {T} e a b q =
     let l = length_rows f n in
     let k : i ≡ n = omega arith in
     record { next = omega arith; same = q ∙ ap (λ j. sets T₀ to (rows f 0 j)) k ∙ sym (ap (λ b. written b to (rows f 0 n) T₀) (not-false write e)) }
-
--- n words of a list stored as one part
-pub stored_part : (W : List ℕ) {write : Bool} {to : ℕ} (from n k : ℕ) (T : List ℕ) {ys : List ℕ} → not write ≡ false
-    → from + n ≤ length W → to + n ≤ length T → k ≡ n → ys ≡ take n (drop from W)
-    → Wrote write to (rows (λ i. get_or W (from + i) 0) 0 n) T (put_mid to k T ys) (to + n)
-unfolding written
-stored_part W {write} {to} from n k T {ys} e h g q p =
-    let zs = rows (λ i. get_or W (from + i) 0) 0 n in
-    let l = length_rows (λ i. get_or W (from + i) 0) n in
-    record {
-      next = omega arith;
-      same =
-          put_mid-paste to k T ys zs n (p ∙ sym (rows_part W from n h)) (sym q) (sym l)
-          ∙ ap₂ (λ x m. take to T ++ x ++ drop (to + m) T) (take_all n zs (omega arith)) (sym l)
-          ∙ sym (sets-eq zs T to (omega arith)) ∙ sym (ap (λ b. written b to zs T) (not-false write e));
-    }
 
 -- by the code's count of them
 module _ (f : ℕ → ℕ) {n m : ℕ} {write : Bool} {to : ℕ} {T₀ : List ℕ} where

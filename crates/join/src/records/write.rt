@@ -19,6 +19,7 @@ use snapshot::records::Records;
 const KINDS: usize = 11;
 
 // Puts the words from one place to another, and answers the place after them.
+// A loop: `copy_from_slice` has C bring a `memmove`.
 fn copy(words: &[u32], from: usize, end: usize, target: &mut [u32], to: usize, write: bool) -> usize
     requires { (from ≤ end) × (end ≤ length words.now) × Space write to (run_of words.now from end) target.old }
     ensures { Wrote write to (run_of words.now from end) target.old target.new result }
@@ -27,7 +28,9 @@ fn copy(words: &[u32], from: usize, end: usize, target: &mut [u32], to: usize, w
     if !write {
         return to + n;
     }
-    target[to..to + n].copy_from_slice(&words[from..end]);
+    for i in 0..n {
+        target[to + i] = words[from + i];
+    }
     to + n
 }
 

@@ -1,14 +1,14 @@
 -- Laws of the state of eight windows, as the code goes over it.
 use Prim.Native.Nat.{ℕ, zero, suc, ◌+◌, ◌-◌, ◌*◌, ◌%◌, ◌≤◌, ◌<◌}
-use mathlib.Core.Path.{◌≡◌, refl, sym, ◌∙◌, ap, ap₂, subst}
+use mathlib.Core.Path.{◌≡◌, refl, sym, ◌∙◌, ap, subst}
 use mathlib.Core.Bool.{Bool, true, false}
-use mathlib.Core.List.{List, ◌++◌}
+use mathlib.Core.List.{List, ◌++◌, append_assoc}
 use native.Mathlib.Omega.{arith}
+use native.Mathlib.Numerals.{add-one}
 use borrow.Author.Tests.{lt-ltb, le-ltb, ltb-true, ltb-false}
-use borrow.Rule.Slice.PartMut.{put_mid}
 use lib.Dec.{ltb}
-use lib.ListN.{length, get_or, take, drop, length-append, length-drop}
-use lib.Seq.{drop-drop, length-take-le}
+use lib.ListN.{length, get_or, set, take, drop, length-append, length-drop}
+use lib.Seq.{length-take-le, take_all, paste, paste-suc}
 use Rattle.snapshot.specs.Refusals.{window_refusal, waits_refusal}
 use Rattle.windows.specs.rules.States.{waits, with_row, first_from, served, place_fault}
 
@@ -38,10 +38,19 @@ first_none S w (suc n) h = omega arith
 
 -- the row of a window written
 
-pub row_put : (S row ys : List ℕ) (w k : ℕ) → k ≡ 8 → ys ≡ row → put_mid (1 + 8 * w) k S ys ≡ with_row S w row
+pub row_next : (S T row : List ℕ) (at i : ℕ) → T ≡ paste S at row i → at + i < length S → i < length row
+    → set T (at + i) (get_or row i 0) ≡ paste S at row (i + 1)
+row_next S T row at i e h k =
+    ap (λ x. set x (at + i) (get_or row i 0)) e ∙ paste-suc S at row i 0 h k ∙ ap (paste S at row) (sym (add-one i))
+
+pub row_done : (S T row : List ℕ) (w i : ℕ) → T ≡ paste S (1 + 8 * w) row i → i ≤ 8 → 8 ≤ i → length row ≡ 8 → T ≡ with_row S w row
 unfolding with_row
-row_put S row ys w k q e =
-    ap₂ (λ x j. take (1 + 8 * w) S ++ (x ++ drop j (drop (1 + 8 * w) S))) e q ∙ ap (λ x. take (1 + 8 * w) S ++ (row ++ x)) (drop-drop 8 (1 + 8 * w) S)
+row_done S T row w i e h k l =
+    let q : i ≡ 8 = omega arith in
+    e
+    ∙ ap (paste S (1 + 8 * w) row) q
+    ∙ append_assoc (take (1 + 8 * w) S) (take 8 row) (drop (1 + 8 * w + 8) S)
+    ∙ ap (λ x. take (1 + 8 * w) S ++ (x ++ drop (1 + 8 * w + 8) S)) (take_all 8 row (omega (arith, l)))
 
 -- other words for a window
 

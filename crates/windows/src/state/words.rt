@@ -50,11 +50,14 @@ pub fn windows_of(words: [u32; 65]) -> Windows
 }
 
 /// The words with other words for a window.
+// A loop: `copy_from_slice` has C bring a `memmove`.
 pub fn with_words(mut words: [u32; 65], window: Window, row: [u32; 8]) -> [u32; 65]
     ensures { result ≡ with_row words window.number row }
 {
     let at = 1 + StateWords::ROW * window.number;
-    words[at..at + StateWords::ROW].copy_from_slice(&row);
+    for i in 0..StateWords::ROW {
+        words[at + i] = row[i];
+    }
     words
 }
 

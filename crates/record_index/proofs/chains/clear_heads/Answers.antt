@@ -1,28 +1,16 @@
-use mathlib.Core.Path.{◌≡◌, refl, subst, ◌∙◌}
+use Prim.Native.Nat.{◌+◌, ◌-◌, ◌/◌}
+use mathlib.Core.Path.{◌≡◌, refl, ◌∙◌}
 use native.Mathlib.Omega.{arith}
-use Rattle.record_index.specs.Post.{Cleared}
-use Rattle.record_index.proofs.Chaining.{cleared_start, cleared_next}
+use borrow.Author.Rules.{rules}
+use borrow.Rule.Slice.PartMut.{mid_len}
+use Rattle.record_index.proofs.Chaining.{cleared_all}
 use Rattle.record_index.proofs.chains.clear_heads.Goals as goal
-
-pub loop-m-init : goal.loop-m-init
-loop-m-init c = (cleared_start c.args.area.now c.args.heads c.args.end, omega arith, refl)
-
-pub put_half-requires : goal.put_half-requires
-put_half-requires c =
-    let r = c.requires in
-    let t = c.loop-m-test.true in
-    (omega (arith, r.from), omega (arith, t, r.fits, c.loop-m.invariant.2), r.few)
-
-pub loop-m-preserved : goal.loop-m-preserved
-loop-m-preserved c =
-    let v = c.loop-m.invariant in (
-      cleared_next _ _ _ _ _ _ c.put_half.ensures v.0,
-      omega (arith, c.loop-m-test.true),
-      c.put_half.auto.area ∙ v.2,
-    )
 
 pub returns : goal.returns
 returns c =
-    let v = c.loop-m.invariant in
-    let e : c.loop-m.m ≡ c.args.keys = omega (arith, v.1, c.loop-m-test.false) in
-    subst (λ m. Cleared c.args.area.now c.args.heads m c.args.end c.loop-m.area) e v.0
+    let a = c.args.heads / 2 in
+    let b = (c.args.heads + c.args.keys) / 2 in
+    let r = c.requires.room in
+    let e : b - a ≡ c.args.keys / 2 = omega (arith, c.requires.whole.0, c.requires.whole.1) in
+    cleared_all c.args.area.now _ c.args.heads c.args.keys c.args.end _ _ c.requires.whole.0 c.requires.whole.1 e
+    (mid_len a b c.args.area.now (omega (arith, r.fits)) ∙ e) (c.fill.ensures.after (λ y q. search rules)) r.few r.from (omega (arith, r.fits))

@@ -1,0 +1,11 @@
+use Prim.Native.Nat.{◌+◌, ◌≤◌}
+use mathlib.Core.Path.{◌≡◌}
+use mathlib.Core.List.{◌++◌}
+use lib.ListN.{length, take, drop}
+use Rattle.snapshot.specs.Sizes.{scope_size}
+use Rattle.edit_rules.proofs.scope_edits.moves.move_up.Given as goal
+
+abbrev pub invariant-loop-i : goal.invariant-loop-i
+invariant-loop-i l =
+    (l.at ≤ l.i) × (l.i ≤ l.count) × (length l.words ≡ length l.initial.words)
+    × (l.words ≡ take (l.i + scope_size) l.initial.words ++ (drop l.i (take l.count l.initial.words) ++ drop (l.count + scope_size) l.initial.words))
