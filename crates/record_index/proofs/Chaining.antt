@@ -43,7 +43,23 @@ pub first_next : (f : ℕ → ℕ) (n keys heads links : ℕ) (A : List ℕ) (m 
 first_next f n keys heads links A m j x h o e =
     subst (First f n m (j + 1)) (sym e) (subst (λ z. First f n z (j + 1) (half_at A (links + j))) o (x.links j (omega arith) h))
 
--- heads are cleared, two a word
+-- heads are cleared one by one
+pub cleared_start : (A : List ℕ) (heads end : ℕ) → Cleared A heads 0 end A
+cleared_start A heads end =
+    record { none = λ m h. absurd (omega arith); beside = record { others = λ j p q. refl; below = refl } }
+
+pub cleared_next : (A₀ A B : List ℕ) (heads m end : ℕ) → Put A (heads + m) end B → Cleared A₀ heads m end A → Cleared A₀ heads (m + 1) end B
+cleared_next A₀ A B heads m end p v =
+    record {
+      none = λ i h.
+          by_same i m (λ e. ap (λ z. half_at B (heads + z)) e ∙ p.here) (λ n. p.others (heads + i) (λ e. n (omega arith)) ∙ v.none i (omega arith));
+      beside = record {
+        others = λ j q r. p.others j (λ e. q (omega arith) (omega arith)) ∙ v.beside.others j (λ s t. q s (omega arith)) (λ s t. omega arith);
+        below = p.below ∙ v.beside.below;
+      };
+    }
+
+-- and two a word
 module _ (A ys : List ℕ) (heads keys end k j : ℕ) (even : heads % 2 ≡ 0) (pairs : keys % 2 ≡ 0) (p : k ≡ keys / 2) (q : j ≡ keys / 2)
     (e : ys ≡ replicate j (end * 65537)) (small : end < 65536) (from : 2 * row_words ≤ heads) (fits : heads + keys ≤ 2 * length A) where
   abbrev at : ℕ
